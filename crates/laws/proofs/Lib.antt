@@ -1,0 +1,10 @@
+-- The laws of the shared definitions, by the file that has the definition; Tails has those of parts of slices.
+pub mod Bools
+pub mod Ranges
+pub mod Sums
+pub mod Lists
+pub mod Digits
+pub mod Written
+pub mod Filling
+pub mod Tails
+pub mod Couples

@@ -1,0 +1,175 @@
+-- Laws of lists: what passes a test, counts, joined lists, sums over a list, and what holds of every member. Assumes nothing.
+use mathlib.Core.Path.{_≡_, refl, sym, ap, ap₂, _∙_}
+use mathlib.Core.Bool.{Bool, true, false, not, _&&_, cond, true≢false, false≢true}
+use mathlib.Core.List.{List, [], _∷_, _++_, map, append-assoc}
+use Prim.Native.Nat.{ℕ, zero, suc, _+_, _*_, _≤_, _<_}
+use native.Mathlib.Nat.{not-suc-le-zero, le-of-suc-le-suc}
+use native.Mathlib.Numerals.{add-one}
+use native.Mathlib.Omega.{arith}
+use lib.ListN.{length, getD, set, take, drop}
+use lib.Seq.{take-suc, drop-cons}
+use Rattle.laws.specs.Bools.{bit}
+use Rattle.laws.specs.Lists.{keep, count, joined, total, All}
+use Rattle.laws.proofs.Bools.{bit-le}
+
+-- ---- those that pass a test
+
+module _ {A : Type 0} where
+  pub keep-append : (p : A → Bool) (xs ys : List A) → keep p (xs ++ ys) ≡ keep p xs ++ keep p ys
+  unfolding keep
+  keep-append p [] ys = refl
+  keep-append p (x ∷ xs) ys = go (p x) (keep-append p xs ys)
+    where
+      go : (c : Bool) → keep p (xs ++ ys) ≡ keep p xs ++ keep p ys
+          → cond c (x ∷ keep p (xs ++ ys)) (keep p (xs ++ ys)) ≡ cond c (x ∷ keep p xs) (keep p xs) ++ keep p ys
+      go true e = ap (λ (l : List A). x ∷ l) e
+      go false e = e
+
+  pub keep-same : (p q : A → Bool) → ((x : A) → p x ≡ q x) → (xs : List A) → keep p xs ≡ keep q xs
+  unfolding keep
+  keep-same p q h [] = refl
+  keep-same p q h (x ∷ xs) = ap₂ (λ (c : Bool) (l : List A). cond c (x ∷ l) l) (h x) (keep-same p q h xs)
+
+  pub keep-le : (p : A → Bool) (xs : List A) → length (keep p xs) ≤ length xs
+  unfolding keep
+  keep-le p [] = omega arith
+  keep-le p (x ∷ xs) = go (p x) (keep-le p xs)
+    where
+      go : (c : Bool) → length (keep p xs) ≤ length xs → length (cond c (x ∷ keep p xs) (keep p xs)) ≤ suc (length xs)
+      go true h = omega arith
+      go false h = omega arith
+
+  -- ---- how many pass it
+
+  pub count-append : (p : A → Bool) (xs ys : List A) → count p (xs ++ ys) ≡ count p xs + count p ys
+  unfolding count
+  count-append p [] ys = omega arith
+  count-append p (x ∷ xs) ys = omega (arith, count-append p xs ys)
+
+  pub count-same : (p q : A → Bool) → ((x : A) → p x ≡ q x) → (xs : List A) → count p xs ≡ count q xs
+  unfolding count
+  count-same p q h [] = refl
+  count-same p q h (x ∷ xs) = ap₂ (λ (c : Bool) (n : ℕ). bit c + n) (h x) (count-same p q h xs)
+
+  pub count-le : (p : A → Bool) (xs : List A) → count p xs ≤ length xs
+  unfolding count
+  count-le p [] = omega arith
+  count-le p (x ∷ xs) = omega (arith, bit-le (p x), count-le p xs)
+
+  pub count-set : (d : A) (p : A → Bool) (l : List A) (i : ℕ) (v : A) → i < length l
+      → count p (set l i v) + bit (p (getD l i d)) ≡ count p l + bit (p v)
+  unfolding count
+  count-set d p [] i v h = absurd (not-suc-le-zero h)
+  count-set d p (x ∷ l) zero v h = omega arith
+  count-set d p (x ∷ l) (suc i) v h = omega (arith, count-set d p l i v (le-of-suc-le-suc h))
+
+  pub count-some : (d : A) (p : A → Bool) (l : List A) (k : ℕ) → k < length l → p (getD l k d) ≡ true → 0 < count p l
+  unfolding count bit
+  count-some d p [] k h e = absurd (not-suc-le-zero h)
+  count-some d p (x ∷ l) zero h e = omega (arith, ap bit e)
+  count-some d p (x ∷ l) (suc k) h e = omega (arith, count-some d p l k (le-of-suc-le-suc h) e)
+
+  pub count-none : (d : A) (p : A → Bool) (l : List A) → ((k : ℕ) → k < length l → p (getD l k d) ≡ false) → count p l ≡ 0
+  unfolding count bit
+  count-none d p [] h = refl
+  count-none d p (x ∷ l) h = omega (arith, ap bit (h 0 (omega arith)), count-none d p l (λ k b. h (suc k) (omega arith)))
+
+  -- ---- sums over the members
+
+  pub total-append : (f : A → ℕ) (xs ys : List A) → total f (xs ++ ys) ≡ total f xs + total f ys
+  unfolding total
+  total-append f [] ys = omega arith
+  total-append f (x ∷ xs) ys = omega (arith, total-append f xs ys)
+
+  pub total-same : (f g : A → ℕ) → ((x : A) → f x ≡ g x) → (xs : List A) → total f xs ≡ total g xs
+  unfolding total
+  total-same f g e [] = refl
+  total-same f g e (x ∷ xs) = omega (arith, e x, total-same f g e xs)
+
+  pub total-le : (f g : A → ℕ) → ((x : A) → f x ≤ g x) → (xs : List A) → total f xs ≤ total g xs
+  unfolding total
+  total-le f g e [] = omega arith
+  total-le f g e (x ∷ xs) = omega (arith, e x, total-le f g e xs)
+
+  pub total-plus : (f g : A → ℕ) (xs : List A) → total (λ x. f x + g x) xs ≡ total f xs + total g xs
+  unfolding total
+  total-plus f g [] = refl
+  total-plus f g (x ∷ xs) = omega (arith, total-plus f g xs)
+
+  pub total-zero : (xs : List A) → total (λ (x : A). 0) xs ≡ 0
+  unfolding total
+  total-zero [] = refl
+  total-zero (x ∷ xs) = omega (arith, total-zero xs)
+
+  pub total-keep : (f : A → ℕ) (p : A → Bool) (xs : List A) → total f (keep p xs) ≡ total (λ x. cond (p x) (f x) 0) xs
+  unfolding total keep
+  total-keep f p [] = refl
+  total-keep f p (x ∷ xs) = go (p x) (total-keep f p xs)
+    where
+      go : (c : Bool) → total f (keep p xs) ≡ total (λ y. cond (p y) (f y) 0) xs
+          → total f (cond c (x ∷ keep p xs) (keep p xs)) ≡ cond c (f x) 0 + total (λ y. cond (p y) (f y) 0) xs
+      go true e = omega (arith, e)
+      go false e = omega (arith, e)
+
+  pub total-count : (p : A → Bool) (xs : List A) → count p xs ≡ total (λ x. bit (p x)) xs
+  unfolding total count
+  total-count p [] = refl
+  total-count p (x ∷ xs) = ap (λ (n : ℕ). bit (p x) + n) (total-count p xs)
+
+  pub total-joined : (f : A → ℕ) (ls : List (List A)) → total f (joined ls) ≡ total (total f) ls
+  unfolding total joined
+  total-joined f [] = refl
+  total-joined f (l ∷ ls) = total-append f l (joined ls) ∙ ap (λ (n : ℕ). total f l + n) (total-joined f ls)
+
+module _ {A B : Type 0} where
+  pub map-append : (f : A → B) (xs ys : List A) → map f (xs ++ ys) ≡ map f xs ++ map f ys
+  map-append f [] ys = refl
+  map-append f (x ∷ xs) ys = ap (λ (l : List B). f x ∷ l) (map-append f xs ys)
+
+  pub total-map : (f : B → ℕ) (g : A → B) (xs : List A) → total f (map g xs) ≡ total (λ x. f (g x)) xs
+  unfolding total
+  total-map f g [] = refl
+  total-map f g (x ∷ xs) = ap (λ (n : ℕ). f (g x) + n) (total-map f g xs)
+
+  pub count-map : (p : B → Bool) (g : A → B) (xs : List A) → count p (map g xs) ≡ count (λ x. p (g x)) xs
+  unfolding count
+  count-map p g [] = refl
+  count-map p g (x ∷ xs) = ap (λ (n : ℕ). bit (p (g x)) + n) (count-map p g xs)
+
+  pub total-swap : (f : A → B → ℕ) (xs : List A) (ys : List B) → total (λ x. total (f x) ys) xs ≡ total (λ y. total (λ x. f x y) xs) ys
+  unfolding total
+  total-swap f [] ys = sym (total-zero ys)
+  total-swap f (x ∷ xs) ys = ap (λ (n : ℕ). total (f x) ys + n) (total-swap f xs ys) ∙ sym (total-plus (f x) (λ y. total (λ z. f z y) xs) ys)
+
+-- ---- what holds of every member
+
+module _ {A : Type 0} where
+  pub all-append : (P : A → Type 0) (xs ys : List A) → All P xs → All P ys → All P (xs ++ ys)
+  unfolding All
+  all-append P [] ys a b = b
+  all-append P (x ∷ xs) ys a b = (a .0, all-append P xs ys (a .1) b)
+
+  pub all-map : (P Q : A → Type 0) → ((x : A) → P x → Q x) → (xs : List A) → All P xs → All Q xs
+  unfolding All
+  all-map P Q f [] a = tt
+  all-map P Q f (x ∷ xs) a = (f x (a .0), all-map P Q f xs (a .1))
+
+  pub all-index : (d : A) (P : A → Type 0) (l : List A) → ((k : ℕ) → k < length l → P (getD l k d)) → All P l
+  unfolding All
+  all-index d P [] f = tt
+  all-index d P (x ∷ l) f = (f 0 (omega arith), all-index d P l (λ k h. f (suc k) (omega arith)))
+
+  pub all-member : (d : A) (P : A → Type 0) (l : List A) → All P l → (k : ℕ) → k < length l → P (getD l k d)
+  unfolding All
+  all-member d P [] a k h = absurd (not-suc-le-zero h)
+  all-member d P (x ∷ l) a zero h = a .0
+  all-member d P (x ∷ l) a (suc k) h = all-member d P l (a .1) k (le-of-suc-le-suc h)
+
+  -- one more from the front, and one more from behind
+  pub all-take : (d : A) (P : A → Type 0) (l : List A) (i : ℕ) → i < length l → All P (take i l) → P (getD l i d) → All P (take (i + 1) l)
+  unfolding All
+  all-take d P l i h a e = rw (add-one, take-suc l i d) (all-append P (take i l) (getD l i d ∷ []) a (e, tt))
+
+  pub all-drop : (d : A) (P : A → Type 0) (l : List A) (j : ℕ) → j < length l → All P (drop (suc j) l) → P (getD l j d) → All P (drop j l)
+  unfolding All
+  all-drop d P l j h a e = rw (drop-cons l j d) (e, a)

@@ -1,0 +1,90 @@
+-- Laws of sums over the numbers below a bound. Assumes nothing.
+use mathlib.Core.Path.{_≡_, refl, sym, ap, ap₂, _∙_}
+use mathlib.Core.Logic.{⊎-elim}
+use mathlib.Core.List.{List}
+use Prim.Native.Nat.{ℕ, zero, suc, _+_, _-_, _*_, _≤_, _<_}
+use native.Mathlib.Nat.{add-zero, zero-add, add-suc, add-assoc, add-comm, suc-mul, zero-mul, add-le-add}
+use native.Mathlib.Numerals.{add-one}
+use native.Mathlib.Omega.{arith}
+use Rattle.laws.specs.Ranges.{sum, each}
+use Rattle.laws.specs.Lists.{total}
+use Rattle.laws.proofs.Ranges.{lt-or}
+use Rattle.laws.proofs.Lists.{total-append}
+
+pub sum-none : (f : ℕ → ℕ) → sum 0 f ≡ 0
+unfolding sum
+sum-none f = refl
+
+-- the loop's turn
+pub sum-turn : (f : ℕ → ℕ) (k n r : ℕ) → n ≡ sum k f → r ≡ f k → n + r ≡ sum (k + 1) f
+unfolding sum
+sum-turn f k n r p q = rw (add-one, p, q)
+
+pub sum-same : (n : ℕ) (f g : ℕ → ℕ) → ((i : ℕ) → i < n → f i ≡ g i) → sum n f ≡ sum n g
+unfolding sum
+sum-same zero f g h = refl
+sum-same (suc n) f g h = ap₂ (λ (x y : ℕ). x + y) (sum-same n f g (λ i l. h i (omega arith))) (h n (omega arith))
+
+pub sum-zero : (n : ℕ) (f : ℕ → ℕ) → ((i : ℕ) → i < n → f i ≡ 0) → sum n f ≡ 0
+unfolding sum
+sum-zero zero f h = refl
+sum-zero (suc n) f h = omega (arith, sum-zero n f (λ i l. h i (omega arith)), h n (omega arith))
+
+pub sum-le : (n b : ℕ) (f : ℕ → ℕ) → ((i : ℕ) → f i ≤ b) → sum n f ≤ n * b
+unfolding sum
+sum-le zero b f h = omega arith
+sum-le (suc n) b f h = rw suc-mul (add-le-add (sum-le n b f h) (h n))
+
+-- the sum of sums, term by term
+pub sum-plus : (n : ℕ) (f g : ℕ → ℕ) → sum n (λ i. f i + g i) ≡ sum n f + sum n g
+unfolding sum
+sum-plus zero f g = refl
+sum-plus (suc n) f g = omega (arith, sum-plus n f g)
+
+-- the first m terms, and the n after them
+pub sum-add : (m n : ℕ) (f : ℕ → ℕ) → sum (m + n) f ≡ sum m f + sum n (λ i. f (m + i))
+unfolding sum
+sum-add m zero f = rw (add-zero, add-zero)
+sum-add m (suc n) f = rw (add-suc, sum-add m n f) (add-assoc (sum m f) (sum n (λ i. f (m + i))) (f (m + n)))
+
+-- m rows of n
+pub sum-rows : (m n : ℕ) (f : ℕ → ℕ) → sum (m * n) f ≡ sum m (λ j. sum n (λ i. f (j * n + i)))
+unfolding sum
+sum-rows zero n f = rw zero-mul
+sum-rows (suc m) n f = rw (suc-mul, sum-add (m * n) n f, sum-rows m n f)
+
+pub sum-swap : (n m : ℕ) (f : ℕ → ℕ → ℕ) → sum n (λ i. sum m (f i)) ≡ sum m (λ j. sum n (λ i. f i j))
+unfolding sum
+sum-swap zero m f = sym (sum-zero m (λ j. 0) (λ i h. refl))
+sum-swap (suc n) m f = rw (sum-swap n m f) (sym (sum-plus m (λ j. sum n (λ i. f i j)) (f n)))
+
+-- ---- the terms moved by one, and by o
+
+pub sum-next : (n : ℕ) (f : ℕ → ℕ) → sum n (λ i. f (suc i)) + f 0 ≡ sum n f + f n
+unfolding sum
+sum-next zero f = refl
+sum-next (suc n) f = omega (arith, sum-next n f)
+
+-- g is f moved up by o, within n
+pub sum-shift : (f g : ℕ → ℕ) (o n : ℕ) → ((x : ℕ) → x < o → g x ≡ 0) → ((y : ℕ) → y + o < n → g (y + o) ≡ f y) → ((y : ℕ) → y < n → n ≤ y + o → f y ≡ 0)
+    → sum n g ≡ sum n f
+sum-shift f g o n low mid high =
+    ⊎-elim (λ p. sum-zero n g (λ k b. low k (omega arith)) ∙ sym (sum-zero n f (λ k b. high k b (omega arith)))) (λ p. inside p) (lt-or n o)
+  where
+    inside : o ≤ n → sum n g ≡ sum n f
+    inside p =
+        let e : o + (n - o) ≡ n = omega arith in
+        let e′ : n - o + o ≡ n = omega arith in
+        let first : sum n g ≡ sum (n - o) f =
+        ap (λ (k : ℕ). sum k g) (sym e) ∙ sum-add o (n - o) g
+        ∙ rw (sum-zero o g low, zero-add) (sum-same (n - o) (λ k. g (o + k)) f (λ k b. ap g (add-comm o k) ∙ mid k (omega arith))) in
+        let second : sum n f ≡ sum (n - o) f =
+        ap (λ (k : ℕ). sum k f) (sym e′) ∙ sum-add (n - o) o f
+        ∙ rw (sum-zero o (λ k. f (n - o + k)) (λ k b. high (n - o + k) (omega arith) (omega arith)), add-zero) in
+        first ∙ sym second
+
+-- a sum over joined lists
+pub each-total : {A : Type 0} (W : A → ℕ) (n : ℕ) (f : ℕ → List A) → total W (each n f) ≡ sum n (λ i. total W (f i))
+unfolding each sum total
+each-total W zero f = refl
+each-total W (suc n) f = total-append W (each n f) (f n) ∙ ap (λ (x : ℕ). x + total W (f n)) (each-total W n f)

@@ -1,0 +1,30 @@
+-- Lists: those that pass a test, how many do, lists of lists joined, sums over a list, and what holds of every member. Assumes nothing.
+use mathlib.Core.Bool.{Bool, true, false, cond}
+use mathlib.Core.List.{List, [], _∷_, _++_}
+use Prim.Native.Nat.{ℕ, _+_}
+use Rattle.laws.specs.Bools.{bit}
+
+module _ {A : Type 0} where
+  -- those that pass the test, in their order
+  unfoldable pub keep : (A → Bool) → List A → List A
+  keep p [] = []
+  keep p (x ∷ xs) = cond (p x) (x ∷ keep p xs) (keep p xs)
+
+  -- how many pass the test
+  unfoldable pub count : (A → Bool) → List A → ℕ
+  count p [] = 0
+  count p (x ∷ xs) = bit (p x) + count p xs
+
+  unfoldable pub joined : List (List A) → List A
+  joined [] = []
+  joined (x ∷ xs) = x ++ joined xs
+
+  -- the sum of f over the members
+  unfoldable pub total : (A → ℕ) → List A → ℕ
+  total f [] = 0
+  total f (x ∷ xs) = f x + total f xs
+
+  -- P holds of every member
+  unfoldable pub All : (A → Type 0) → List A → Type 0
+  All P [] = Unit {0}
+  All P (x ∷ xs) = P x × All P xs

@@ -1,0 +1,1 @@
+// The shared laws: definitions and lemmas that several crates cite. There is no code in it.
