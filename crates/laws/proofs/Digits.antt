@@ -10,7 +10,9 @@ use borrow.Author.Tests.{eq-eqb, ne-eqb}
 use lib.Dec.{eqb}
 use lib.Bits.{bitAnd, bitOr, bitXor, and-step, or-step, xor-step, differ}
 use lib.Count.{trailingZeros, under, ones, onesIn, ones-step}
-use Rattle.laws.specs.Digits.{digit, isSet}
+use Rattle.laws.specs.Bools.{bit}
+use Rattle.laws.specs.Digits.{digit, isSet, mask}
+use Rattle.laws.proofs.Bools.{bit-le}
 use Rattle.laws.proofs.Ranges.{lt-or, eq-or}
 
 pub digit-lt : (m e : ℕ) → digit m e < 2
@@ -293,3 +295,20 @@ pub ones-own : (k m : ℕ) → m < 2 ^ k → onesIn k m ≡ ones m
 unfolding onesIn
 ones-own zero m h = let z : 0 ≡ m = omega arith in subst (λ (x : ℕ). onesIn 0 x ≡ ones x) z none
 ones-own (suc k) m h = omega (arith, ones-own k (m / 2) (half-lt k m h), ones-step m)
+
+-- ---- the mask of the places that pass a test
+
+low-bit : (b x : ℕ) → b ≤ 1 → ((b + 2 * x) % 2 ≡ b) × ((b + 2 * x) / 2 ≡ x)
+low-bit b x h = (omega arith, omega arith)
+
+pub mask-digit : (n : ℕ) (p : ℕ → Bool) (e : ℕ) → e < n → digit (mask n p) e ≡ bit (p e)
+unfolding digit mask
+mask-digit zero p e h = absurd (not-suc-le-zero h)
+mask-digit (suc n) p zero h = low-bit (bit (p 0)) (mask n (λ e. p (suc e))) (bit-le (p 0)) .0
+mask-digit (suc n) p (suc e) h =
+    ap (λ (x : ℕ). digit x e) (low-bit (bit (p 0)) (mask n (λ e. p (suc e))) (bit-le (p 0)) .1) ∙ mask-digit n (λ e. p (suc e)) e (omega arith)
+
+pub mask-lt : (n : ℕ) (p : ℕ → Bool) → mask n p < 2 ^ n
+unfolding mask
+mask-lt zero p = omega arith
+mask-lt (suc n) p = omega (arith, mask-lt n (λ e. p (suc e)), bit-le (p 0), pow-suc 2 n)

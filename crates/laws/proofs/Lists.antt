@@ -122,6 +122,12 @@ module _ {A : Type 0} where
   total-joined f (l ∷ ls) = total-append f l (joined ls) ∙ ap (λ (n : ℕ). total f l + n) (total-joined f ls)
 
 module _ {A B : Type 0} where
+  -- an entry of a mapped list, whatever stands for an entry that is not there
+  pub getD-map : (f : A → B) (l : List A) (i : ℕ) (d : A) (d′ : B) → i < length l → getD (map f l) i d′ ≡ f (getD l i d)
+  getD-map f [] i d d′ h = absurd (not-suc-le-zero h)
+  getD-map f (x ∷ l) zero d d′ h = refl
+  getD-map f (x ∷ l) (suc i) d d′ h = getD-map f l i d d′ (le-of-suc-le-suc h)
+
   pub map-append : (f : A → B) (xs ys : List A) → map f (xs ++ ys) ≡ map f xs ++ map f ys
   map-append f [] ys = refl
   map-append f (x ∷ xs) ys = ap (λ (l : List B). f x ∷ l) (map-append f xs ys)

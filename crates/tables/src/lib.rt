@@ -1,0 +1,271 @@
+// The constant tables of the lattice's fourteen edges and of the march, each read by a function with an exact promise.
+// Every index is the caller's to keep in range: the callers are loops over the tables' own sizes.
+ghost use mathlib.Core.Path.{_≡_};
+ghost use Prim.Native.Nat.{_<_};
+ghost use lib.ListN.{length, getD};
+ghost use Rattle.tables.specs.Edges.{delta, reverse, neighbourMask, cornerOf};
+ghost use Rattle.tables.specs.FlatHoles.{flatHole};
+ghost use Rattle.tables.specs.Tets.{tetLabel, tetPair, edgeIn};
+ghost use Rattle.tables.specs.Cases.{mtRow, flat};
+
+// The number of edges at a site, and of those that it owns.
+pub const EDGES: usize = 14;
+
+pub const OWNED_EDGES: usize = 7;
+
+// All fourteen edges as a mask.
+pub const ALL14_MASK: u16 = 0x3FFF;
+
+pub const FLAT_HOLES: usize = 36;
+
+pub const TETS: usize = 6;
+
+pub struct Delta {
+    pub i: i8,
+    pub j: i8,
+    pub k: i8,
+}
+
+// The ijk offset from a site to the other end of each edge.
+const EDGE_DELTAS: [[i8; 3]; 14] = [
+    [-1, 1, 0],
+    [-2, 0, 0],
+    [-1, -1, 0],
+    [0, 1, -1],
+    [-1, 0, -1],
+    [0, -1, -1],
+    [1, 0, -1],
+    [1, -1, 0],
+    [2, 0, 0],
+    [1, 1, 0],
+    [0, -1, 1],
+    [1, 0, 1],
+    [0, 1, 1],
+    [-1, 0, 1],
+];
+
+pub fn edge_delta(e: usize) -> Delta
+    requires { ⌜ e < 14 ⌝ }
+    ensures { λ r. ⌜ r ≡ delta e ⌝ }
+{
+    let d = EDGE_DELTAS[e];
+    Delta {
+        i: d[0],
+        j: d[1],
+        k: d[2],
+    }
+}
+
+// The label of each edge as its other end sees it.
+const REVERSE_EDGE: [usize; 14] = [7, 8, 9, 10, 11, 12, 13, 0, 1, 2, 3, 4, 5, 6];
+
+pub fn reverse_edge(e: usize) -> usize
+    requires { ⌜ e < 14 ⌝ }
+    ensures { λ r. ⌜ r ≡ reverse e ⌝ }
+{
+    REVERSE_EDGE[e]
+}
+
+// The neighbours of each edge, as a mask (the paper's Table 3).
+const NEIGHBOUR_MASKS: [u16; 14] = [
+    0x321A,
+    0x2015,
+    0x24B2,
+    0x0251,
+    0x006F,
+    0x00D4,
+    0x03B8,
+    0x0D64,
+    0x0AC0,
+    0x1949,
+    0x2884,
+    0x3780,
+    0x2A01,
+    0x1C07,
+];
+
+pub fn neighbour_mask(e: usize) -> u16
+    requires { ⌜ e < 14 ⌝ }
+    ensures { λ r. ⌜ r ≡ neighbourMask e ⌝ }
+{
+    NEIGHBOUR_MASKS[e]
+}
+
+pub struct FlatHole {
+    pub edges: u16,
+    pub opposite: u16,
+}
+
+// Pairs of edges without a near intersection, and the two edges between them (the paper's Table 4).
+const FLAT_HOLE_MASKS: [[u16; 2]; 36] = [
+    [0x0003, 0x2010],
+    [0x0009, 0x0210],
+    [0x0011, 0x000A],
+    [0x0201, 0x1008],
+    [0x1001, 0x2200],
+    [0x2001, 0x1002],
+    [0x0006, 0x2010],
+    [0x0012, 0x0005],
+    [0x2002, 0x0005],
+    [0x0014, 0x0022],
+    [0x0024, 0x0090],
+    [0x0084, 0x0420],
+    [0x0404, 0x2080],
+    [0x2004, 0x0402],
+    [0x0018, 0x0041],
+    [0x0048, 0x0210],
+    [0x0208, 0x0041],
+    [0x0030, 0x0044],
+    [0x0050, 0x0028],
+    [0x0060, 0x0090],
+    [0x00A0, 0x0044],
+    [0x00C0, 0x0120],
+    [0x0140, 0x0280],
+    [0x0240, 0x0108],
+    [0x0180, 0x0840],
+    [0x0480, 0x0804],
+    [0x0880, 0x0500],
+    [0x0300, 0x0840],
+    [0x0900, 0x0280],
+    [0x0A00, 0x1100],
+    [0x1200, 0x0801],
+    [0x0C00, 0x2080],
+    [0x2400, 0x0804],
+    [0x1800, 0x2200],
+    [0x2800, 0x1400],
+    [0x3000, 0x0801],
+];
+
+pub fn flat_hole(i: usize) -> FlatHole
+    requires { ⌜ i < 36 ⌝ }
+    ensures { λ r. ⌜ r ≡ flatHole i ⌝ }
+{
+    let row = FLAT_HOLE_MASKS[i];
+    FlatHole {
+        edges: row[0],
+        opposite: row[1],
+    }
+}
+
+// The corner of the cell to which each owned edge leads: du + 2 dv + 4 dw.
+const LABEL_CORNERS: [usize; 7] = [1, 3, 2, 5, 7, 6, 4];
+
+pub fn label_corner(label: usize) -> usize
+    requires { ⌜ label < 7 ⌝ }
+    ensures { λ r. ⌜ r ≡ cornerOf label ⌝ }
+{
+    LABEL_CORNERS[label]
+}
+
+// The six tetrahedra that a site owns: the labels of the edges to their other three corners.
+const OWNED_TET_EDGES: [usize; 18] = [0, 4, 1, 0, 3, 4, 3, 6, 4, 1, 4, 2, 2, 4, 5, 4, 6, 5];
+
+pub fn tet_label(tet: usize, corner: usize) -> usize
+    requires { ⌜ (tet < 6) × (corner < 3) ⌝ }
+    ensures { λ r. ⌜ r ≡ tetLabel tet corner ⌝ }
+{
+    OWNED_TET_EDGES[3 * tet + corner]
+}
+
+pub struct Ends {
+    pub from: usize,
+    pub to: usize,
+}
+
+// The edges of a tetrahedron, as pairs of its corners.
+const TET_EDGE_PAIRS: [[usize; 2]; 6] = [[0, 1], [0, 2], [0, 3], [1, 2], [1, 3], [2, 3]];
+
+pub fn tet_edge_pair(edge: usize) -> Ends
+    requires { ⌜ edge < 6 ⌝ }
+    ensures { λ r. ⌜ r ≡ tetPair edge ⌝ }
+{
+    let pair = TET_EDGE_PAIRS[edge];
+    Ends {
+        from: pair[0],
+        to: pair[1],
+    }
+}
+
+// The edges of each tetrahedron by their owners: 7 times the owner's corner of the cell, and the owner's label.
+const TET_SLOTS: [usize; 36] = [
+    0,
+    4,
+    1,
+    12,
+    9,
+    27,
+    0,
+    3,
+    4,
+    13,
+    12,
+    37,
+    3,
+    6,
+    4,
+    28,
+    37,
+    29,
+    1,
+    4,
+    2,
+    27,
+    14,
+    17,
+    2,
+    4,
+    5,
+    17,
+    20,
+    42,
+    4,
+    6,
+    5,
+    29,
+    42,
+    30,
+];
+
+pub fn tet_slot(tet: usize, edge: usize) -> usize
+    requires { ⌜ (tet < 6) × (edge < 6) ⌝ }
+    ensures { λ r. ⌜ r ≡ edgeIn tet edge ⌝ }
+{
+    TET_SLOTS[6 * tet + edge]
+}
+
+// The triangles of each case of a tetrahedron, whose corners are edges of it: how many, and their corners one after the other.
+const MT_COUNTS: [usize; 16] = [0, 1, 1, 2, 1, 2, 2, 1, 1, 2, 2, 1, 2, 1, 1, 0];
+
+const MT_TABLE: [[usize; 6]; 16] = [
+    [0, 0, 0, 0, 0, 0],
+    [0, 1, 2, 0, 0, 0],
+    [0, 4, 3, 0, 0, 0],
+    [3, 1, 2, 3, 2, 4],
+    [1, 3, 5, 0, 0, 0],
+    [5, 2, 0, 5, 0, 3],
+    [5, 1, 0, 5, 0, 4],
+    [2, 4, 5, 0, 0, 0],
+    [2, 5, 4, 0, 0, 0],
+    [4, 0, 1, 4, 1, 5],
+    [3, 0, 2, 3, 2, 5],
+    [1, 5, 3, 0, 0, 0],
+    [4, 2, 1, 4, 1, 3],
+    [0, 3, 4, 0, 0, 0],
+    [0, 2, 1, 0, 0, 0],
+    [0, 0, 0, 0, 0, 0],
+];
+
+pub fn mt_count(case: usize) -> usize
+    requires { ⌜ case < 16 ⌝ }
+    ensures { λ r. ⌜ r ≡ length (mtRow case) ⌝ }
+{
+    MT_COUNTS[case]
+}
+
+pub fn mt_edge(case: usize, at: usize) -> usize
+    requires { ⌜ (case < 16) × (at < 6) ⌝ }
+    ensures { λ r. ⌜ r ≡ getD (flat (mtRow case)) at 0 ⌝ }
+{
+    let row = MT_TABLE[case];
+    row[at]
+}
