@@ -1,0 +1,12 @@
+-- `sides::is_inside` meets its contract. Assumes nothing.
+use mathlib.Core.Path.{refl}
+use Rattle.sides.specs.Sides.{inside}
+use Rattle.sides.proofs.is_inside.Statement.{statement}
+use Rattle.sides.proofs.is_inside.Tie as tie
+
+returns : tie.Need-returns
+unfolding inside
+returns c = refl
+
+pub is-inside-spec : {M : Type 1} → statement M
+is-inside-spec = tie.close (tie.spec returns)

@@ -1,0 +1,12 @@
+-- `sides::mark_fraction` meets its contract. Assumes nothing.
+use mathlib.Core.Path.{refl}
+use Rattle.sides.specs.Sides.{markFraction}
+use Rattle.sides.proofs.mark_fraction.Statement.{statement}
+use Rattle.sides.proofs.mark_fraction.Tie as tie
+
+returns : tie.Need-returns
+unfolding markFraction
+returns c = refl
+
+pub mark-fraction-spec : {M : Type 1} → statement M
+mark-fraction-spec = tie.close (tie.spec returns)
