@@ -1,4 +1,4 @@
--- The laws of the shared definitions, by the file that has the definition; Tails has those of parts of slices.
+-- The laws of the shared definitions, by the file that has the definition; Tails has those of parts of slices, Ints those of integers.
 pub mod Bools
 pub mod Ranges
 pub mod Sums
@@ -8,3 +8,4 @@ pub mod Written
 pub mod Filling
 pub mod Tails
 pub mod Couples
+pub mod Ints
