@@ -1,3 +1,4 @@
+-- `lattice::gap_label` meets its contract. Assumes nothing.
 use borrow.Author.Needs.{needs}
 use Rattle.lattice.proofs.Source.{label-at}
 use Rattle.lattice.proofs.gap_label.Statement.{statement}
