@@ -153,6 +153,12 @@ pub digit-unset : (m e : ℕ) → digit m e ≡ 0 → isSet m e ≡ false
 unfolding isSet
 digit-unset m e h = ne-eqb (digit m e) 1 (λ p. omega arith)
 
+-- the digit is the truth value as a number
+pub digit-is : (m e : ℕ) → digit m e ≡ bit (isSet m e)
+unfolding bit
+digit-is m e =
+    ⊎-elim (λ z. z ∙ sym (ap bit (digit-unset m e z))) (λ o. o ∙ sym (ap bit (digit-set m e o))) (digit-or-not m e)
+
 -- one more digit set
 pub set-or-pow : (a b e : ℕ) → isSet (bitOr a (2 ^ b)) e ≡ isSet a e || eqb b e
 set-or-pow a b e =
@@ -312,3 +318,10 @@ pub mask-lt : (n : ℕ) (p : ℕ → Bool) → mask n p < 2 ^ n
 unfolding mask
 mask-lt zero p = omega arith
 mask-lt (suc n) p = omega (arith, mask-lt n (λ e. p (suc e)), bit-le (p 0), pow-suc 2 n)
+
+-- tests that agree make the same mask
+pub mask-same : (n : ℕ) (p q : ℕ → Bool) → ((e : ℕ) → e < n → p e ≡ q e) → mask n p ≡ mask n q
+unfolding mask
+mask-same zero p q h = refl
+mask-same (suc n) p q h =
+    ap₂ (λ (b : Bool) (x : ℕ). bit b + 2 * x) (h 0 (omega arith)) (mask-same n (λ e. p (suc e)) (λ e. q (suc e)) (λ e l. h (suc e) (omega arith)))

@@ -1,6 +1,6 @@
 -- Laws of folds, joined lists and tests over the numbers below a bound. Assumes nothing.
 use mathlib.Core.Path.{_≡_, refl, sym, ap, ap₂, _∙_, subst}
-use mathlib.Core.Bool.{Bool, true, false, _&&_, _||_, Bool·beq, or-assoc, or-false}
+use mathlib.Core.Bool.{Bool, true, false, _&&_, _||_, Bool·beq, or-assoc, or-false, false≢true}
 use mathlib.Core.Logic.{_⊎_, inl, inr, ⊎-elim}
 use mathlib.Core.List.{List, [], _∷_, _++_, map, append-nil, append-assoc}
 use Prim.Native.Nat.{ℕ, zero, suc, _+_, _*_, _≤_, _<_, pred}
@@ -8,10 +8,11 @@ use native.Mathlib.Nat.{add-zero, add-suc, zero-mul, suc-mul, le-antisymm, not-s
 use native.Mathlib.Numerals.{add-one}
 use native.Mathlib.Omega.{arith}
 use lib.Dec.{T, eqb, eqb→eq}
-use lib.ListN.{length, length-append}
+use lib.ListN.{length, getD, length-append, List·getD-append}
+use lib.Seq.{getD-at}
 use Rattle.laws.specs.Ranges.{fold, each, any, all}
 use Rattle.laws.specs.Lists.{joined}
-use Rattle.laws.proofs.Bools.{and-left, and-right, beq→eq}
+use Rattle.laws.proofs.Bools.{and-left, and-right, or-apart, beq→eq}
 
 -- ---- cases on two numbers
 
@@ -53,14 +54,43 @@ module _ {A : Type 0} where
   fold-inv P f (suc n) a p keep = keep n (fold f n a) (omega arith) (fold-inv P f n a p (λ k b h. keep k b (omega arith)))
 
   -- What each turn can only add to a flag g, the loop adds: turn k adds p k. P is what every turn keeps.
-  pub fold-or : (P : A → Type 0) (g : A → Bool) (f : ℕ → A → A) (p : ℕ → Bool)
-      → ((k : ℕ) (a : A) → P a → P (f k a)) → ((k : ℕ) (a : A) → P a → g (f k a) ≡ g a || p k)
-      → (n : ℕ) (a : A) → P a → P (fold f n a) × (g (fold f n a) ≡ g a || any n p)
+  pub fold-or : (P : A → Type 0) (g : A → Bool) (f : ℕ → A → A) (p : ℕ → Bool) (n : ℕ) (a : A)
+      → ((k : ℕ) (b : A) → k < n → P b → P (f k b)) → ((k : ℕ) (b : A) → k < n → P b → g (f k b) ≡ g b || p k)
+      → P a → P (fold f n a) × (g (fold f n a) ≡ g a || any n p)
   unfolding fold any
-  fold-or P g f p keep e zero a h = (h, sym (or-false (g a)))
-  fold-or P g f p keep e (suc n) a h =
-      let ih = fold-or P g f p keep e n a h in
-      (keep n (fold f n a) (ih .0), e n (fold f n a) (ih .0) ∙ ap (λ (b : Bool). b || p n) (ih .1) ∙ or-assoc (g a) (any n p) (p n))
+  fold-or P g f p zero a keep e h = (h, sym (or-false (g a)))
+  fold-or P g f p (suc n) a keep e h =
+      let ih = fold-or P g f p n a (λ k b l. keep k b (omega arith)) (λ k b l. e k b (omega arith)) h in
+      let l : n < suc n = omega arith in
+      (keep n (fold f n a) l (ih .0), e n (fold f n a) l (ih .0) ∙ ap (λ (b : Bool). b || p n) (ih .1) ∙ or-assoc (g a) (any n p) (p n))
+
+module _ {A : Type 0} where
+  -- two loops whose turns agree on all that P holds of, which the turns keep
+  pub fold-same : (P : A → Type 0) (f g : ℕ → A → A) (n : ℕ) (a : A) → P a → ((k : ℕ) (b : A) → k < n → P b → P (g k b))
+      → ((k : ℕ) (b : A) → k < n → P b → f k b ≡ g k b) → fold f n a ≡ fold g n a
+  unfolding fold
+  fold-same P f g zero a p keep h = refl
+  fold-same P f g (suc n) a p keep h =
+      ap (f n) (fold-same P f g n a p (λ k b l. keep k b (omega arith)) (λ k b l. h k b (omega arith)))
+      ∙ h n (fold g n a) (omega arith) (fold-inv P g n a p (λ k b l. keep k b (omega arith)))
+
+  pub fold-add : (f : ℕ → A → A) (m n : ℕ) (a : A) → fold f (m + n) a ≡ fold (λ i. f (m + i)) n (fold f m a)
+  unfolding fold
+  fold-add f m zero a = rw add-zero
+  fold-add f m (suc n) a = rw (add-suc, fold-add f m n a)
+
+  -- m rows of n turns
+  pub fold-rows : (f : ℕ → A → A) (m n : ℕ) (a : A) → fold f (m * n) a ≡ fold (λ j. fold (λ i. f (j * n + i)) n) m a
+  unfolding fold
+  fold-rows f zero n a = rw zero-mul
+  fold-rows f (suc m) n a = rw (suc-mul, fold-add f (m * n) n a, fold-rows f m n a)
+
+-- turns that work on the part of a list behind a given front
+pub fold-behind : {A : Type 0} (front : List A) (f g : ℕ → List A → List A) (n : ℕ) (r : List A)
+    → ((k : ℕ) (x : List A) → k < n → g k (front ++ x) ≡ front ++ f k x) → fold g n (front ++ r) ≡ front ++ fold f n r
+unfolding fold
+fold-behind front f g zero r h = refl
+fold-behind front f g (suc n) r h = ap (g n) (fold-behind front f g n r (λ k x l. h k x (omega arith))) ∙ h n (fold f n r) (omega arith)
 
 pub fold-keeps : {A B : Type 0} (g : A → B) (f : ℕ → A → A) → ((k : ℕ) (a : A) → g (f k a) ≡ g a) → (k : ℕ) (a : A) → g (fold f k a) ≡ g a
 unfolding fold
@@ -111,6 +141,23 @@ module _ {A : Type 0} where
   each-rows zero n f = rw zero-mul
   each-rows (suc m) n f = rw (suc-mul, each-add (m * n) n f, each-rows m n f)
 
+-- one entry for each number
+module _ {A : Type 0} (f : ℕ → A) where
+  pub singles-length : (n : ℕ) → length (each n (λ i. f i ∷ [])) ≡ n
+  unfolding each
+  singles-length zero = refl
+  singles-length (suc n) = length-append (each n (λ i. f i ∷ [])) (f n ∷ []) ∙ omega (arith, singles-length n)
+
+  pub singles-at : (d : A) (n i : ℕ) → i < n → getD (each n (λ i. f i ∷ [])) i d ≡ f i
+  unfolding each
+  singles-at d zero i h = absurd (not-suc-le-zero h)
+  singles-at d (suc n) i h =
+      ⊎-elim
+      (λ l. List·getD-append (each n (λ i. f i ∷ [])) (f n ∷ []) d i (omega (arith, singles-length n)) ∙ singles-at d n i l)
+      (λ g.
+      let q : i ≡ n = omega arith in
+      getD-at (each n (λ i. f i ∷ [])) (f n) [] d i (singles-length n ∙ sym q) ∙ ap f (sym q)) (lt-or i n)
+
 -- ---- tests at every number below a bound
 
 pub all-at : (n : ℕ) (p : ℕ → Bool) → T (all n p) → (k : ℕ) → k < n → T (p k)
@@ -133,6 +180,19 @@ same-at2 n m f g t i j hi hj = eqb→eq (f i j) (g i j) (all-at2 n m (λ i j. eq
 
 pub beq-at2 : (n m : ℕ) (f g : ℕ → ℕ → Bool) → T (all n (λ i. all m (λ j. Bool·beq (f i j) (g i j)))) → (i j : ℕ) → i < n → j < m → f i j ≡ g i j
 beq-at2 n m f g t i j hi hj = beq→eq (f i j) (g i j) (all-at2 n m (λ i j. Bool·beq (f i j) (g i j)) t i j hi hj)
+
+-- a number that passes
+pub record Found (n : ℕ) (p : ℕ → Bool) : Type 0 where
+  pub place : ℕ
+  pub below : place < n
+  pub holds : p place ≡ true
+
+pub any-found : (n : ℕ) (p : ℕ → Bool) → any n p ≡ true → Found n p
+unfolding any
+any-found zero p e = absurd (false≢true e)
+any-found (suc n) p e =
+    ⊎-elim (λ q. let f = any-found n p q in record { place = f .place; below = omega (arith, f .below); holds = f .holds })
+    (λ q. record { place = n; below = omega arith; holds = q }) (or-apart (any n p) (p n) e)
 
 -- some number passes where one does
 pub any-some : (n : ℕ) (p : ℕ → Bool) (k : ℕ) → k < n → p k ≡ true → any n p ≡ true

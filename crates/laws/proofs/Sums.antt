@@ -1,13 +1,18 @@
 -- Laws of sums over the numbers below a bound. Assumes nothing.
 use mathlib.Core.Path.{_≡_, refl, sym, ap, ap₂, _∙_}
+use mathlib.Core.Bool.{Bool}
 use mathlib.Core.Logic.{⊎-elim}
 use mathlib.Core.List.{List}
-use Prim.Native.Nat.{ℕ, zero, suc, _+_, _-_, _*_, _≤_, _<_}
+use Prim.Native.Nat.{ℕ, zero, suc, _+_, _-_, _*_, _/_, _%_, _≤_, _<_}
 use native.Mathlib.Nat.{add-zero, zero-add, add-suc, add-assoc, add-comm, suc-mul, zero-mul, add-le-add}
 use native.Mathlib.Numerals.{add-one}
 use native.Mathlib.Omega.{arith}
+use lib.Count.{onesIn}
+use Rattle.laws.specs.Bools.{bit}
+use Rattle.laws.specs.Digits.{mask}
 use Rattle.laws.specs.Ranges.{sum, each}
 use Rattle.laws.specs.Lists.{total}
+use Rattle.laws.proofs.Bools.{bit-le}
 use Rattle.laws.proofs.Ranges.{lt-or}
 use Rattle.laws.proofs.Lists.{total-append}
 
@@ -65,11 +70,16 @@ unfolding sum
 sum-next zero f = refl
 sum-next (suc n) f = omega (arith, sum-next n f)
 
+-- the first term, and those after it
+pub sum-front : (n : ℕ) (f : ℕ → ℕ) → sum (suc n) f ≡ f 0 + sum n (λ i. f (suc i))
+unfolding sum
+sum-front n f = omega (arith, sum-next n f)
+
 -- g is f moved up by o, within n
-pub sum-shift : (f g : ℕ → ℕ) (o n : ℕ) → ((x : ℕ) → x < o → g x ≡ 0) → ((y : ℕ) → y + o < n → g (y + o) ≡ f y) → ((y : ℕ) → y < n → n ≤ y + o → f y ≡ 0)
+pub sum-shift : (f g : ℕ → ℕ) (o n : ℕ) → ((x : ℕ) → x < o → x < n → g x ≡ 0) → ((y : ℕ) → y + o < n → g (y + o) ≡ f y) → ((y : ℕ) → y < n → n ≤ y + o → f y ≡ 0)
     → sum n g ≡ sum n f
 sum-shift f g o n low mid high =
-    ⊎-elim (λ p. sum-zero n g (λ k b. low k (omega arith)) ∙ sym (sum-zero n f (λ k b. high k b (omega arith)))) (λ p. inside p) (lt-or n o)
+    ⊎-elim (λ p. sum-zero n g (λ k b. low k (omega arith) b) ∙ sym (sum-zero n f (λ k b. high k b (omega arith)))) (λ p. inside p) (lt-or n o)
   where
     inside : o ≤ n → sum n g ≡ sum n f
     inside p =
@@ -77,11 +87,24 @@ sum-shift f g o n low mid high =
         let e′ : n - o + o ≡ n = omega arith in
         let first : sum n g ≡ sum (n - o) f =
         ap (λ (k : ℕ). sum k g) (sym e) ∙ sum-add o (n - o) g
-        ∙ rw (sum-zero o g low, zero-add) (sum-same (n - o) (λ k. g (o + k)) f (λ k b. ap g (add-comm o k) ∙ mid k (omega arith))) in
+        ∙ rw (sum-zero o g (λ k b. low k b (omega arith)), zero-add) (sum-same (n - o) (λ k. g (o + k)) f (λ k b. ap g (add-comm o k) ∙ mid k (omega arith))) in
         let second : sum n f ≡ sum (n - o) f =
         ap (λ (k : ℕ). sum k f) (sym e′) ∙ sum-add (n - o) o f
         ∙ rw (sum-zero o (λ k. f (n - o + k)) (λ k b. high (n - o + k) (omega arith) (omega arith)), add-zero) in
         first ∙ sym second
+
+-- the set digits of a mask are the places that pass its test
+pub mask-ones : (n : ℕ) (p : ℕ → Bool) → onesIn n (mask n p) ≡ sum n (λ e. bit (p e))
+unfolding onesIn mask
+mask-ones zero p = sym (sum-none (λ e. bit (p e)))
+mask-ones (suc n) p =
+    let r = mask n (λ e. p (suc e)) in
+    let a : (bit (p 0) + 2 * r) % 2 ≡ bit (p 0) = low (bit (p 0)) r (bit-le (p 0)) .0 in
+    let b : (bit (p 0) + 2 * r) / 2 ≡ r = low (bit (p 0)) r (bit-le (p 0)) .1 in
+    omega (arith, a, ap (onesIn n) b, mask-ones n (λ e. p (suc e)), sum-front n (λ e. bit (p e)))
+  where
+    low : (b x : ℕ) → b ≤ 1 → ((b + 2 * x) % 2 ≡ b) × ((b + 2 * x) / 2 ≡ x)
+    low b x h = (omega arith, omega arith)
 
 -- a sum over joined lists
 pub each-total : {A : Type 0} (W : A → ℕ) (n : ℕ) (f : ℕ → List A) → total W (each n f) ≡ sum n (λ i. total W (f i))

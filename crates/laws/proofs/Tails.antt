@@ -1,10 +1,10 @@
 -- Parts of a slice that start anywhere: `&s[a..]` is `take (length s - a) (drop a s)`, and a lent part comes back by `putMid`. Assumes nothing.
 use mathlib.Core.Path.{_≡_, sym, ap, _∙_}
-use mathlib.Core.List.{List, [], _++_, append-nil}
-use Prim.Native.Nat.{ℕ, _-_, _+_, _≤_, _<_}
-use native.Mathlib.Nat.{le-of-eq, le-min}
+use mathlib.Core.List.{List, [], _∷_, _++_, append-nil}
+use Prim.Native.Nat.{ℕ, zero, suc, _-_, _+_, _≤_, _<_}
+use native.Mathlib.Nat.{le-of-eq, le-min, suc-add}
 use native.Mathlib.Omega.{arith}
-use lib.ListN.{length, getD, take, drop, length-take, length-drop, drop-of-length-le, length-append, List·getD-append}
+use lib.ListN.{length, getD, set, take, drop, length-take, length-drop, drop-of-length-le, length-append, List·getD-append}
 use lib.Seq.{take-all, length-take-le, getD-append-add, getD-take, getD-drop}
 use borrow.Rule.Slice.PartMut.{putMid}
 
@@ -32,3 +32,9 @@ module _ {A : Type 0} where
   back-before d a l r x q k =
       let inside : x < length (take a l) = rw length-take (le-min q k) in
       List·getD-append (take a l) r d x inside ∙ getD-take a l x d q
+
+  -- a store behind a front
+  pub set-behind : (p r : List A) (n t : ℕ) (v : A) → length p ≡ n → set (p ++ r) (n + t) v ≡ p ++ set r t v
+  set-behind [] r n t v e = let z : n + t ≡ t = omega arith in ap (λ (j : ℕ). set r j v) z
+  set-behind (x ∷ p) r zero t v e = absurd (omega arith)
+  set-behind (x ∷ p) r (suc n) t v e = rw suc-add (ap (λ (l : List A). x ∷ l) (set-behind p r n t v (omega arith)))

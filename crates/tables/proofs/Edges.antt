@@ -2,7 +2,7 @@
 use mathlib.Core.Path.{_≡_, refl, sym, ap, ap₂, _∙_}
 use mathlib.Core.Bool.{Bool, true, false, _&&_, Bool·beq}
 use mathlib.Core.List.{List, [], _∷_}
-use Prim.Native.Nat.{ℕ, _+_, _*_, _/_, _%_, _^_, _<_}
+use Prim.Native.Nat.{ℕ, _+_, _-_, _*_, _/_, _%_, _^_, _≤_, _<_}
 use native.Mathlib.Omega.{arith}
 use lib.Dec.{T, eqb, eqb→eq, ltb, ltb→lt}
 use lib.IntN.{ℤ, pos, negsuc}
@@ -53,6 +53,15 @@ reverse-lt e = omega arith
 pub reverse-twice : (e : ℕ) → e < 14 → reverse (reverse e) ≡ e
 unfolding reverse
 reverse-twice e h = omega arith
+
+-- the labels 0 to 6 and 7 to 13 change places
+pub reverse-low : (e : ℕ) → e < 7 → reverse e ≡ e + 7
+unfolding reverse
+reverse-low e h = omega arith
+
+pub reverse-high : (e : ℕ) → 7 ≤ e → e < 14 → reverse e ≡ e - 7
+unfolding reverse
+reverse-high e l h = omega arith
 
 -- no two edges have the same delta
 pub delta-one : (e f : ℕ) → e < 14 → f < 14 → same (delta e) (delta f) ≡ eqb e f

@@ -1,0 +1,210 @@
+// The oracle: the shown Rust, run with document 01's stand-ins, to be held beside our own programs.
+//
+// THE RUST'S, compiled from its own files at build time (tools/oracle/build):
+//   topology.rs, constants.rs     whole and unchanged
+//   of isosurface.rs              ClusterMethod, SamplePoint, VertexCandidate, get_edge_points, get_edge_owner,
+//                                 edge_ref_get, edge_ref_set, push_vertex, average_point, interpolate_points,
+//                                 edge_delta, add_ijk, tetrahedron_cases, march_tets, build_facets, is_inside,
+//                                 sorted_vertex_edge, facet_vertex_ids, add_facet_cluster_owners,
+//                                 collect_invalid_topology_cluster_owners
+//   of build_isosurface           the loop that marks the edges of a cell; and in one piece everything from the
+//                                 candidates to the end of the rollback rounds
+//
+// OURS, all of it:
+//   Document 01's stand-ins (isosurface.rs of this folder): the box of sites and their order (`keys`), the frame
+//     (SampleLattice), lerp_alpha as a/(a-b), edge_intersection_point, rollback_cluster_owners and its order,
+//     and E as the number of times the marking loop marks.
+//   Changes made to the taken text: an end outside the box is passed over in the marking loop; `0..4` is `0..rounds`;
+//     lines that only note what is there (crossed += 1, seen.split, seen.owners, seen.made).
+//   Shims: rayon's par_iter and par_chunks in order; curvature weights never called; progress and messages dropped.
+//   The vertex book: read off the Rust's edge table after each pass, and off the masks.
+//   The call of test_topology for the dump (the build makes its own calls).
+//   The count file, its refusals, what is printed, the checks of each answer (countfile.rs), the generator
+//     (generate.rs), the search (search.rs), and the commands below.
+//
+// The threshold 1.0e-9 stands in the Rust's text only (is_inside, twice) and in the values that generate.rs picks.
+
+#![allow(dead_code)]
+
+mod countfile;
+mod generate;
+mod isosurface;
+mod search;
+
+include!(concat!(env!("ORACLE_MADE"), "/modules.rs"));
+
+use std::collections::HashMap;
+use std::io::{Read, Write};
+
+const USAGE: &str = "usage: oracle [--dump] [--unbounded] [FILE]
+       oracle --batch [--dump]
+       oracle --generate SEED FROM COUNT [FOLDER]
+       oracle --coverage SEED COUNT [FOLDER]
+       oracle --search SEED SECONDS FOLDER [NAME]
+       oracle --topology MASK CLUSTER V0 .. V13
+       oracle --topology-all SEED
+       oracle --owner I J K I J K
+       oracle --tet T A B C D
+       oracle --inside V
+       oracle --alpha A B
+       oracle --mean X Y Z [X Y Z ..]
+       oracle --tables
+a value is 16 lower-case hex digits, or - for a missing one";
+
+fn stop(why: &str) -> ! {
+    eprintln!("oracle: {why}");
+    std::process::exit(2)
+}
+
+fn number<T: std::str::FromStr>(text: &str) -> T {
+    text.parse().unwrap_or_else(|_| stop(&format!("not a number: {text}")))
+}
+
+fn value(text: &str) -> Option<f64> {
+    if text == "-" {
+        return None;
+    }
+    Some(countfile::float_of(text.as_bytes()).unwrap_or_else(|| stop(&format!("not a value: {text}"))))
+}
+
+fn given(text: &str) -> f64 {
+    value(text).unwrap_or_else(|| stop("a value is missing"))
+}
+
+fn whole_input(file: Option<&String>) -> Vec<u8> {
+    let mut bytes = Vec::new();
+    let read = match file {
+        Some(name) => std::fs::File::open(name).and_then(|mut f| f.read_to_end(&mut bytes)),
+        None => std::io::stdin().lock().read_to_end(&mut bytes),
+    };
+    if let Err(why) = read {
+        stop(&why.to_string());
+    }
+    bytes
+}
+
+/// The values at the fourteen ends of the edges from (0,0,0), as topology.rs wants them.
+fn ends(values: &[Option<f64>]) -> HashMap<[i64; 3], f64> {
+    let at = |e: usize| constants::EDGE_DELTAS[e].map(i64::from);
+    values.iter().enumerate().filter_map(|(e, v)| v.map(|v| (at(e), v))).collect()
+}
+
+/// Answers to many files: `file LENGTH` and the bytes in, the answer and a line `end` out.
+fn batch(dump: bool) {
+    let bytes = whole_input(None);
+    let mut out = std::io::BufWriter::new(std::io::stdout().lock());
+    let mut rest = &bytes[..];
+    while !rest.is_empty() {
+        let head = rest.strip_prefix(b"file ").unwrap_or_else(|| stop("no line `file LENGTH`"));
+        let end = head.iter().position(|&b| b == b'\n').unwrap_or_else(|| stop("no line `file LENGTH`"));
+        let length: usize = number(&String::from_utf8_lossy(&head[..end]));
+        let body = &head[end + 1..];
+        if body.len() < length {
+            stop("the last file is cut off");
+        }
+        let _ = out.write_all(countfile::answer_text(&body[..length], dump, false).as_bytes());
+        let _ = out.write_all(b"end\n");
+        rest = &body[length..];
+    }
+}
+
+fn tables() {
+    fn row<T: std::fmt::Display>(name: &str, index: usize, values: impl IntoIterator<Item = T>) {
+        let values: String = values.into_iter().map(|v| format!(" {v}")).collect();
+        println!("{name} {index}{values}");
+    }
+    use constants::*;
+    for (i, d) in EDGE_DELTAS.iter().enumerate() {
+        row("EDGE_DELTAS", i, d);
+    }
+    for (i, d) in [U, V, W].iter().enumerate() {
+        row("UVW", i, d);
+    }
+    for (i, e) in REVERSE_EDGE.iter().enumerate() {
+        row("REVERSE_EDGE", i, [e]);
+    }
+    for (i, m) in NEIGHBOUR_MASKS.iter().enumerate() {
+        row("NEIGHBOUR_MASKS", i, [format!("{m:04x}")]);
+    }
+    for (i, [a, b]) in FLAT_HOLE_MASKS.iter().enumerate() {
+        row("FLAT_HOLE_MASKS", i, [format!("{a:04x}"), format!("{b:04x}")]);
+    }
+    row("ALL14_MASK", 0, [format!("{ALL14_MASK:04x}")]);
+    for (i, t) in OWNED_TET_EDGES.iter().enumerate() {
+        row("OWNED_TET_EDGES", i, t);
+    }
+    for (i, p) in TET_EDGE_PAIRS.iter().enumerate() {
+        row("TET_EDGE_PAIRS", i, p);
+    }
+    for (i, t) in MT_TABLE.iter().enumerate() {
+        row("MT_TABLE", i, [t.len()].into_iter().chain(t.iter().flatten().map(|&e| e as usize)));
+    }
+}
+
+fn topology_all(seed: u64) {
+    let mut out = std::io::BufWriter::new(std::io::stdout().lock());
+    let mut state = seed;
+    for mask in 0..16384u16 {
+        let values: Vec<Option<f64>> = (0..14).map(|_| generate::end_value(&mut state)).collect();
+        let (case, clusters) = isosurface::topology_of(mask, true, [0; 3], &ends(&values));
+        let _ = writeln!(out, "{mask:04x} {}", countfile::topology_text(case, &clusters));
+    }
+}
+
+fn main() {
+    let args: Vec<String> = std::env::args().skip(1).collect();
+    let words: Vec<&str> = args.iter().map(String::as_str).collect();
+    match words.as_slice() {
+        ["--batch"] => batch(false),
+        ["--batch", "--dump"] | ["--dump", "--batch"] => batch(true),
+        ["--generate", seed, from, count, folder @ ..] if folder.len() < 2 => {
+            let kept = generate::kept(folder.first().copied());
+            let mut out = std::io::BufWriter::new(std::io::stdout().lock());
+            let from: u64 = number(from);
+            for index in from..from + number::<u64>(count) {
+                let bytes = generate::file(number(seed), index, &kept);
+                let _ = writeln!(out, "file {}", bytes.len());
+                let _ = out.write_all(&bytes);
+            }
+        }
+        ["--coverage", seed, count, folder @ ..] if folder.len() < 2 => {
+            generate::coverage(number(seed), number(count), &generate::kept(folder.first().copied()))
+        }
+        ["--search", seed, seconds, folder] => search::search(number(seed), number(seconds), folder, ""),
+        ["--search", seed, seconds, folder, named] => search::search(number(seed), number(seconds), folder, named),
+        ["--topology", mask, cluster, values @ ..] if values.len() == 14 => {
+            let mask = u16::from_str_radix(mask, 16).unwrap_or_else(|_| stop("not a mask"));
+            let values: Vec<Option<f64>> = values.iter().map(|v| value(v)).collect();
+            let (case, clusters) = isosurface::topology_of(mask, *cluster == "1", [0; 3], &ends(&values));
+            println!("{}", countfile::topology_text(case, &clusters));
+        }
+        ["--topology-all", seed] => topology_all(number(seed)),
+        ["--owner", a, b, c, d, e, f] => {
+            let [a, b, c, d, e, f] = [a, b, c, d, e, f].map(|x| number::<i64>(x));
+            match isosurface::owner_of([a, b, c], [d, e, f]) {
+                Some((o, p, label)) => println!("{label} {} {} {} {} {} {}", o[0], o[1], o[2], p[0], p[1], p[2]),
+                None => println!("none"),
+            }
+        }
+        ["--tet", tet, a, b, c, d] => {
+            let (case, triangles) = isosurface::one_tetrahedron(number(tet), [a, b, c, d].map(|x| value(x)));
+            println!("{case} {triangles}");
+        }
+        ["--inside", v] => println!("{}", u8::from(isosurface::inside(given(v)))),
+        ["--alpha", a, b] => println!("{}", countfile::float_text(isosurface::lerp_alpha(given(a), given(b)))),
+        ["--mean", values @ ..] if !values.is_empty() && values.len() % 3 == 0 => {
+            let points: Vec<[f64; 3]> = values.chunks(3).map(|p| [given(p[0]), given(p[1]), given(p[2])]).collect();
+            println!("{}", isosurface::mean(&points).map(countfile::float_text).join(" "));
+        }
+        ["--tables"] => tables(),
+        _ => {
+            let (options, files): (Vec<&String>, Vec<&String>) = args.iter().partition(|a| a.starts_with("--"));
+            if files.len() > 1 || options.iter().any(|o| *o != "--dump" && *o != "--unbounded") {
+                stop(USAGE);
+            }
+            let on = |name: &str| options.iter().any(|o| *o == name);
+            let text = countfile::answer_text(&whole_input(files.first().copied()), on("--dump"), on("--unbounded"));
+            let _ = std::io::stdout().write_all(text.as_bytes());
+        }
+    }
+}
