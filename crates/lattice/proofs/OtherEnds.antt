@@ -158,6 +158,12 @@ pub across-down : (n : Sides) (s e : ℕ) → 7 ≤ e → acrossOf n s e ≡ dow
 unfolding acrossOf acrossAt
 across-down n s e h = rw (le-ltb e 7 h)
 
+-- for a site whose coordinates are at hand
+pub above-across : (n : Sides) (p : Uvw) (e : ℕ) → InBox n p → e < 7
+    → upward n (p .u) (p .v) (p .w) (cornerOf e) ≡ acrossOf n (siteOf n (p .u) (p .v) (p .w)) e
+above-across n p e b h =
+    sym (across-up n (siteOf n (p .u) (p .v) (p .w)) e h ∙ ap (λ (q : Uvw). upward n (q .u) (q .v) (q .w) (cornerOf e)) (uvw-site n p b))
+
 -- what lies across edge e of site s: the site t, the one above the other by the edge's corner
 pub record Joined (n : Sides) (s e t : ℕ) : Type 0 where
   pub inside : t < sites n

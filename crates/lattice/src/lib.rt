@@ -152,6 +152,15 @@ fn up(n: Sides, p: Uvw, c: usize) -> OtherEnd
     OtherEnd::Missing
 }
 
+// The site at the other end of an owned edge, for a caller that has the coordinates at hand.
+pub fn above(n: Sides, p: Uvw, label: usize) -> OtherEnd
+    requires { ⌜ SidesFit n × InBox n p × (label < 7) ⌝ }
+    ensures { λ r. ⌜ r ≡ acrossOf n (siteOf n (p .u) (p .v) (p .w)) label ⌝ }
+{
+    let c = tables::label_corner(label);
+    up(n, p, c)
+}
+
 // The site of whose cell p is the corner c.
 fn down(n: Sides, p: Uvw, c: usize) -> OtherEnd
     requires { ⌜ SidesFit n × InBox n p × (c < 8) ⌝ }

@@ -4,7 +4,7 @@ use mathlib.Core.Bool.{Bool}
 use mathlib.Core.Logic.{⊎-elim}
 use mathlib.Core.List.{List}
 use Prim.Native.Nat.{ℕ, zero, suc, _+_, _-_, _*_, _/_, _%_, _≤_, _<_}
-use native.Mathlib.Nat.{add-zero, zero-add, add-suc, add-assoc, add-comm, suc-mul, zero-mul, add-le-add}
+use native.Mathlib.Nat.{add-zero, zero-add, add-suc, add-assoc, add-comm, suc-mul, zero-mul, add-le-add, le-antisymm, mul-le-mul-right}
 use native.Mathlib.Numerals.{add-one}
 use native.Mathlib.Omega.{arith}
 use lib.Count.{onesIn}
@@ -25,6 +25,10 @@ pub sum-turn : (f : ℕ → ℕ) (k n r : ℕ) → n ≡ sum k f → r ≡ f k �
 unfolding sum
 sum-turn f k n r p q = rw (add-one, p, q)
 
+-- the loop's end
+pub sum-done : (f : ℕ → ℕ) (k n r : ℕ) → r ≡ sum k f → k ≤ n → n ≤ k → r ≡ sum n f
+sum-done f k n r p h h′ = p ∙ ap (λ (j : ℕ). sum j f) (le-antisymm h h′)
+
 pub sum-same : (n : ℕ) (f g : ℕ → ℕ) → ((i : ℕ) → i < n → f i ≡ g i) → sum n f ≡ sum n g
 unfolding sum
 sum-same zero f g h = refl
@@ -39,6 +43,15 @@ pub sum-le : (n b : ℕ) (f : ℕ → ℕ) → ((i : ℕ) → f i ≤ b) → sum
 unfolding sum
 sum-le zero b f h = omega arith
 sum-le (suc n) b f h = rw suc-mul (add-le-add (sum-le n b f h) (h n))
+
+-- room for one turn more, where the terms are at most b
+pub sum-room : (f : ℕ → ℕ) (b k m n r : ℕ) → ((i : ℕ) → f i ≤ b) → n ≡ sum k f → r ≡ f k → k < m → n + r ≤ m * b
+sum-room f b k m n r h p q l =
+    let a : n + r ≡ sum (k + 1) f = sum-turn f k n r p q in
+    omega (arith, a, sum-le (k + 1) b f h, mul-le-mul-right b (turns l))
+  where
+    turns : k < m → k + 1 ≤ m
+    turns l = omega arith
 
 -- the sum of sums, term by term
 pub sum-plus : (n : ℕ) (f g : ℕ → ℕ) → sum n (λ i. f i + g i) ≡ sum n f + sum n g

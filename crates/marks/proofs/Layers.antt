@@ -29,7 +29,7 @@ use Rattle.lattice.specs.Across.{upward, acrossOf}
 use Rattle.lattice.proofs.Sites.{uvw-site, step-add}
 use Rattle.lattice.proofs.OtherEnds.{across-up}
 use Rattle.marks.specs.Marks.{sample}
-use Rattle.marks.specs.Loops.{setBit, markCrossing, markTo, markLabel, markSite, markSites, fromLayer, markLayer, markLayers, Room}
+use Rattle.marks.specs.Loops.{setBit, markCrossing, markTo, markLabel, markSite, markSites, fromLayer, markLayer, layerTurn, markLayers, Room}
 
 -- ---- the site across an edge that leads up, in the box and in the box from layer w on
 
@@ -189,10 +189,10 @@ module _ (n : Sides) (S : List Float) (h : Float) (f : SidesFit n) where
   below-most w hw = omega (arith, mul-le-mul-right (n .nu * n .nv) (hw), suc-mul w (n .nu * n .nv), mul-comm (n .nu * n .nv) (n .nw))
 
   pub layers-are : (m : List ℕ) → sites n ≤ length m → markLayers n S h (n .nw) m ≡ markSites n S h (sites n) m
-  unfolding markLayers markSites sites
+  unfolding markLayers layerTurn markSites sites
   layers-are m k =
       fold-same (λ (x : List ℕ). length x ≡ length m)
-      (λ w x. take (below n w) x ++ markLayer (fromLayer n w) (drop (below n w) S) h (drop (below n w) x))
+      (layerTurn n S h)
       (λ w. fold (λ i. markSite n S h (below n w + i)) (n .nu * n .nv)) (n .nw) m refl
       (λ w x hw e. fold-keeps length (λ i. markSite n S h (below n w + i)) (λ i y. length-site (below n w + i) y) (n .nu * n .nv) x ∙ e)
       (λ w x hw e. sym (layer-behind w hw x (omega (arith, below-most w hw, k))))

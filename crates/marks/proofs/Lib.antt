@@ -4,3 +4,4 @@ pub mod Bits
 pub mod Masks
 pub mod Count
 pub mod Local
+pub mod Rooms

@@ -7,7 +7,7 @@ use Prim.Native.Nat.{ℕ, _+_, _-_, _^_, _≤_, _<_}
 use native.Mathlib.Omega.{arith}
 use lib.Bits.{bitOr, or-lt}
 use lib.Pow.{pow-lt}
-use lib.ListN.{getD, set, length, replicate, length-set, length-replicate, length-append, getD-replicate, List·getD-append}
+use lib.ListN.{getD, set, length, drop, replicate, length-set, length-replicate, length-append, getD-replicate, List·getD-append}
 use lib.Seq.{getD-set-same, getD-set-other, getD-append-add, ext-getD}
 use lib.Ieee.{Float, lt}
 use Rattle.laws.specs.Bools.{bit}
@@ -25,7 +25,8 @@ use Rattle.lattice.specs.Sites.{SidesFit, sites}
 use Rattle.lattice.specs.Across.{acrossOf}
 use Rattle.lattice.proofs.OtherEnds.{across-joined}
 use Rattle.marks.specs.Marks.{sample, marked, maskAt, masksOf}
-use Rattle.marks.specs.Loops.{setBit, markCrossing, markTo, markLabel, markSite, markSites}
+use Rattle.marks.specs.Loops.{setBit, markCrossing, markTo, markLabel, markSite, markSites, markLayers, zeroed}
+use Rattle.marks.proofs.Layers.{layers-are}
 use Rattle.marks.proofs.Bits.{bitOf, hits, sites-bit, hits-marked}
 
 -- what every mark keeps: the length, the entries past the sites, and that a site's entry has fourteen bits
@@ -87,7 +88,7 @@ module _ (n : Sides) (rest : List ℕ) where
   zeros : length (replicate {A = ℕ} (sites n) 0) ≡ sites n
   zeros = length-replicate {A = ℕ} (sites n) 0
 
-  cleared-room : sites n ≤ length (cleared n rest)
+  pub cleared-room : sites n ≤ length (cleared n rest)
   cleared-room = omega (arith, length-append (replicate (sites n) 0) rest, zeros)
 
   cleared-at : (x : ℕ) → x < sites n → getD (cleared n rest) x 0 ≡ 0
@@ -144,3 +145,10 @@ module _ (n : Sides) (rest : List ℕ) where
     pub masks-are : markSites n S h (sites n) (cleared n rest) ≡ masksOf n S h ++ rest
     unfolding masksOf done table
     masks-are = ext-getD 0 done (table ++ rest) same-length (λ x hx. same-at x)
+
+-- THE CODE: the sites' masks are cleared, then marked layer by layer
+pub box-done : (n : Sides) (S : List Float) (h : Float) (k : ℕ) (m m₁ m₂ : List ℕ) → SidesFit n → k ≡ sites n
+    → m₁ ≡ zeroed k m → m₂ ≡ markLayers n S h (n .nw) m₁ → m₂ ≡ masksOf n S h ++ drop (sites n) m
+box-done n S h k m m₁ m₂ f e p q =
+    q ∙ ap (markLayers n S h (n .nw)) (p ∙ ap (λ (j : ℕ). zeroed j m) e)
+    ∙ layers-are n S h f (cleared n (drop (sites n) m)) (cleared-room n (drop (sites n) m)) ∙ masks-are n (drop (sites n) m) S h f
