@@ -10,7 +10,7 @@ use lib.ListN.{length, getD, set, take, drop}
 use lib.Seq.{take-suc, drop-cons}
 use Rattle.laws.specs.Bools.{bit}
 use Rattle.laws.specs.Lists.{keep, count, joined, total, All}
-use Rattle.laws.proofs.Bools.{bit-le}
+use Rattle.laws.proofs.Bools.{bit-le, bit-T, T-true}
 
 -- ---- those that pass a test
 
@@ -173,3 +173,50 @@ module _ {A : Type 0} where
   pub all-drop : (d : A) (P : A → Type 0) (l : List A) (j : ℕ) → j < length l → All P (drop (suc j) l) → P (getD l j d) → All P (drop j l)
   unfolding All
   all-drop d P l j h a e = rw (drop-cons l j d) (e, a)
+
+  pub all-drop-more : (P : A → Type 0) (l : List A) (i : ℕ) → All P l → All P (drop i l)
+  unfolding All
+  all-drop-more P l zero a = a
+  all-drop-more P [] (suc i) a = tt
+  all-drop-more P (x ∷ l) (suc i) a = all-drop-more P l i (a .1)
+
+  -- ---- counts of a test that all pass, or some do not
+
+  pub all-count : (p : A → Bool) (l : List A) → All (λ x. p x ≡ true) l → count p l ≡ length l
+  unfolding All count bit
+  all-count p [] a = refl
+  all-count p (x ∷ l) a = omega (arith, ap bit (a .0), all-count p l (a .1))
+
+  pub all-count-none : (p : A → Bool) (l : List A) → All (λ x. p x ≡ false) l → count p l ≡ 0
+  unfolding All count bit
+  all-count-none p [] a = refl
+  all-count-none p (x ∷ l) a = omega (arith, ap bit (a .0), all-count-none p l (a .1))
+
+  pub count-all : (p : A → Bool) (l : List A) → count p l ≡ length l → All (λ x. p x ≡ true) l
+  unfolding All count
+  count-all p [] e = tt
+  count-all p (x ∷ l) e =
+      (T-true (p x) (bit-T (p x) (omega (arith, count-le p l, bit-le (p x)))), count-all p l (omega (arith, count-le p l, bit-le (p x))))
+
+  pub count-not-all : (d : A) (p : A → Bool) (l : List A) (k : ℕ) → k < length l → p (getD l k d) ≡ false → count p l < length l
+  unfolding count bit
+  count-not-all d p [] k h e = absurd (not-suc-le-zero h)
+  count-not-all d p (x ∷ l) zero h e = omega (arith, ap bit e, count-le p l)
+  count-not-all d p (x ∷ l) (suc k) h e = omega (arith, count-not-all d p l k (le-of-suc-le-suc h) e, bit-le (p x))
+
+  -- one that passes, where some do
+  pub count-find : (d : A) (p : A → Bool) (l : List A) → 0 < count p l → (k : ℕ) × (k < length l) × (p (getD l k d) ≡ true)
+  unfolding count bit
+  count-find d p [] h = absurd (not-suc-le-zero h)
+  count-find d p (x ∷ l) h = go (p x) refl h (count-find d p l)
+    where
+      go : (b : Bool) → p x ≡ b → 0 < bit b + count p l → (0 < count p l → (k : ℕ) × (k < length l) × (p (getD l k d) ≡ true))
+          → (k : ℕ) × (k < suc (length l)) × (p (getD (x ∷ l) k d) ≡ true)
+      go true e g f = (0, omega arith, e)
+      go false e g f = let r = f (omega arith) in (suc (r .0), omega (arith, r .1), r .2)
+
+  -- two tests that agree on every member
+  pub count-agree : (p q : A → Bool) (l : List A) → All (λ x. p x ≡ q x) l → count p l ≡ count q l
+  unfolding All count
+  count-agree p q [] a = refl
+  count-agree p q (x ∷ l) a = ap₂ (λ (c : Bool) (n : ℕ). bit c + n) (a .0) (count-agree p q l (a .1))

@@ -1,0 +1,3 @@
+-- Laws that several proofs use, and those of crates above.
+pub mod Records
+pub mod Order
