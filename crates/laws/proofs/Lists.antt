@@ -7,7 +7,7 @@ use native.Mathlib.Nat.{not-suc-le-zero, le-of-suc-le-suc}
 use native.Mathlib.Numerals.{add-one}
 use native.Mathlib.Omega.{arith}
 use lib.ListN.{length, getD, set, take, drop}
-use lib.Seq.{take-suc, drop-cons}
+use lib.Seq.{take-suc, take-suc-set, drop-cons, getD-at, set-at, length-take-le}
 use Rattle.laws.specs.Bools.{bit}
 use Rattle.laws.specs.Lists.{keep, count, joined, total, All}
 use Rattle.laws.proofs.Bools.{bit-le, bit-T, T-true}
@@ -126,6 +126,21 @@ module _ {A B : Type 0} where
   map-append f [] ys = refl
   map-append f (x ∷ xs) ys = ap (λ (l : List B). f x ∷ l) (map-append f xs ys)
 
+  pub map-length : (f : A → B) (xs : List A) → length (map f xs) ≡ length xs
+  map-length f [] = refl
+  map-length f (x ∷ xs) = ap suc (map-length f xs)
+
+  pub map-at : (d : A) (e : B) (f : A → B) (xs : List A) (k : ℕ) → k < length xs → getD (map f xs) k e ≡ f (getD xs k d)
+  map-at d e f [] k h = absurd (not-suc-le-zero h)
+  map-at d e f (x ∷ xs) zero h = refl
+  map-at d e f (x ∷ xs) (suc k) h = map-at d e f xs k (le-of-suc-le-suc h)
+
+  -- two functions that agree on every member
+  pub map-agree : (f g : A → B) (xs : List A) → All (λ x. f x ≡ g x) xs → map f xs ≡ map g xs
+  unfolding All
+  map-agree f g [] a = refl
+  map-agree f g (x ∷ xs) a = ap₂ (λ (y : B) (l : List B). y ∷ l) (a .0) (map-agree f g xs (a .1))
+
   pub total-map : (f : B → ℕ) (g : A → B) (xs : List A) → total f (map g xs) ≡ total (λ x. f (g x)) xs
   unfolding total
   total-map f g [] = refl
@@ -140,6 +155,27 @@ module _ {A B : Type 0} where
   unfolding total
   total-swap f [] ys = sym (total-zero ys)
   total-swap f (x ∷ xs) ys = ap (λ (n : ℕ). total (f x) ys + n) (total-swap f xs ys) ∙ sym (total-plus (f x) (λ y. total (λ z. f z y) xs) ys)
+
+-- ---- a list changed entry by entry from the front, as a loop does
+
+module _ {A : Type 0} where
+  -- the entry that comes next stands as it was
+  pub front-map-at : (d : A) (f : A → A) (l : List A) (i : ℕ) → i < length l → getD (map f (take i l) ++ drop i l) i d ≡ getD l i d
+  front-map-at d f l i h =
+      ap (λ (q : List A). getD (map f (take i l) ++ q) i d) (drop-cons l i d h)
+      ∙ getD-at (map f (take i l)) (getD l i d) (drop (suc i) l) d i (map-length f (take i l) ∙ length-take-le i l (omega arith))
+
+  pub front-map-more : (d : A) (f : A → A) (l : List A) (i : ℕ) → i < length l
+      → set (map f (take i l) ++ drop i l) i (f (getD l i d)) ≡ map f (take (i + 1) l) ++ drop (i + 1) l
+  front-map-more d f l i h =
+      let n : length (map f (take i l)) ≡ i = map-length f (take i l) ∙ length-take-le i l (omega arith) in
+      ap (λ (q : List A). set (map f (take i l) ++ q) i (f (getD l i d))) (drop-cons l i d h)
+      ∙ set-at (map f (take i l)) (getD l i d) (drop (suc i) l) (f (getD l i d)) i n
+      ∙ rw (add-one, take-suc l i d h, map-append f (take i l) (getD l i d ∷ []), append-assoc)
+
+  -- a list that is another one as far as k, and then one entry further
+  pub copied-more : (d : A) (l m : List A) (k : ℕ) → k < length l → k < length m → take k l ≡ take k m → take (k + 1) (set l k (getD m k d)) ≡ take (k + 1) m
+  copied-more d l m k h g e = rw (add-one, take-suc-set l k (getD m k d) h, take-suc m k d g, e)
 
 -- ---- what holds of every member
 

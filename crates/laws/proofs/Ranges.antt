@@ -8,7 +8,8 @@ use native.Mathlib.Nat.{add-zero, add-suc, zero-mul, suc-mul, le-antisymm, not-s
 use native.Mathlib.Numerals.{add-one}
 use native.Mathlib.Omega.{arith}
 use lib.Dec.{T, eqb, eqb→eq}
-use lib.ListN.{length, length-append}
+use lib.ListN.{length, getD, length-append, List·getD-append}
+use lib.Seq.{getD-at}
 use Rattle.laws.specs.Ranges.{fold, each, any, all}
 use Rattle.laws.specs.Lists.{joined}
 use Rattle.laws.proofs.Bools.{and-left, and-right, beq→eq}
@@ -110,6 +111,25 @@ module _ {A : Type 0} where
   unfolding each
   each-rows zero n f = rw zero-mul
   each-rows (suc m) n f = rw (suc-mul, each-add (m * n) n f, each-rows m n f)
+
+  -- a list given entry by entry: its length, and its entries
+  pub each-one-length : (n : ℕ) (f : ℕ → A) → length (each n (λ i. f i ∷ [])) ≡ n
+  unfolding each
+  each-one-length zero f = refl
+  each-one-length (suc n) f = length-append (each n (λ i. f i ∷ [])) (f n ∷ []) ∙ ap (λ (k : ℕ). k + 1) (each-one-length n f) ∙ add-one n
+
+  pub each-one-at : (d : A) (n : ℕ) (f : ℕ → A) (k : ℕ) → k < n → getD (each n (λ i. f i ∷ [])) k d ≡ f k
+  unfolding each
+  each-one-at d zero f k h = absurd (not-suc-le-zero h)
+  each-one-at d (suc n) f k h =
+      ⊎-elim
+      (λ l.
+      List·getD-append (each n (λ i. f i ∷ [])) (f n ∷ []) d k (omega (arith, each-one-length n f))
+      ∙ each-one-at d n f k l)
+      (λ g.
+      let q : k ≡ n = omega arith in
+      ap (λ (j : ℕ). getD (each n (λ i. f i ∷ []) ++ f n ∷ []) j d) q ∙ getD-at (each n (λ i. f i ∷ [])) (f n) [] d n (each-one-length n f) ∙ ap f (sym q))
+      (lt-or k n)
 
 -- ---- tests at every number below a bound
 

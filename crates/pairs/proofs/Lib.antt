@@ -1,3 +1,6 @@
 -- Laws that several proofs use, and those of crates above.
 pub mod Records
 pub mod Order
+pub mod Runs
+pub mod Sides
+pub mod Flags

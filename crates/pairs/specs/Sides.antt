@@ -1,7 +1,8 @@
 -- The sides of a list of triangles, three vertex numbers each, and how often a pair of vertices is a side. Nothing here knows of sorting.
+use mathlib.Core.Path.{_≡_}
 use mathlib.Core.Bool.{Bool, _||_}
 use mathlib.Core.List.{List, [], _∷_}
-use Prim.Native.Nat.{ℕ, suc, _+_, _*_, _/_, _%_, min, max}
+use Prim.Native.Nat.{ℕ, suc, _+_, _*_, _/_, _%_, _≤_, min, max}
 use lib.Dec.{ltb}
 use lib.ListN.{length, getD}
 use Rattle.laws.specs.Bools.{bit}
@@ -20,6 +21,12 @@ directed (u ∷ v ∷ w ∷ s) = (u, v) ∷ (v, w) ∷ (w, u) ∷ directed s
 -- how many sides run from x to y
 unfoldable pub dirCount : ℕ → ℕ → List ℕ → ℕ
 dirCount x y s = count (fromTo x y) (directed s)
+
+-- Working room for the sides: whole triangles, nine words for each, and side numbers that fit a word.
+pub record Room (s room : List ℕ) : Type 0 where
+  pub whole : length s % 3 ≡ 0
+  pub nine : length room ≡ length s * 3
+  pub fits : length s ≤ 4294967296
 
 -- the side has the ends x and y, whichever way it runs
 unfoldable pub joins : ℕ → ℕ → Pair → Bool
