@@ -15,10 +15,10 @@ use Rattle.pairs.proofs.flag_runs.Lts as lts
 use Rattle.pairs.proofs.flag_run.Reads as flag-run-reads
 
 abbrev Inv-loop : tie.InvT-loop
-Inv-loop s₀ n i₀ s i = (n ≡ length s₀ / 3) × (i ≤ n) × (length s ≡ length s₀) × Walked (recs s₀) (recs s) i
+Inv-loop s₀ all i₀ s i = (all ≡ length s₀ / 3) × (i ≤ all) × (length s ≡ length s₀) × Walked (recs s₀) (recs s) i
 
 abbrev μ-loop : tie.MeasureT-loop
-μ-loop s₀ n i₀ s i = n - i
+μ-loop s₀ all i₀ s i = all - i
 
 loop-holds : tie.Need-loop-holds Inv-loop μ-loop
 loop-holds c = (refl, omega arith, refl, walked-none (recs (c .before .args .s .now)))
