@@ -210,6 +210,18 @@ module _ {A : Type 0} where
   unfolding All
   all-drop d P l j h a e = rw (drop-cons l j d) (e, a)
 
+  pub all-both : (P Q : A → Type 0) (l : List A) → All P l → All Q l → All (λ x. P x × Q x) l
+  unfolding All
+  all-both P Q [] a b = tt
+  all-both P Q (x ∷ l) a b = ((a .0, b .0), all-both P Q l (a .1) (b .1))
+
+  -- of a part, what holds of the whole
+  pub all-take-more : (P : A → Type 0) (l : List A) (i : ℕ) → All P l → All P (take i l)
+  unfolding All
+  all-take-more P l zero a = tt
+  all-take-more P [] (suc i) a = tt
+  all-take-more P (x ∷ l) (suc i) a = (a .0, all-take-more P l i (a .1))
+
   pub all-drop-more : (P : A → Type 0) (l : List A) (i : ℕ) → All P l → All P (drop i l)
   unfolding All
   all-drop-more P l zero a = a
