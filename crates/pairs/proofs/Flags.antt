@@ -3,11 +3,12 @@ use mathlib.Core.Path.{_≡_, refl, sym, ap, ap₂, _∙_}
 use mathlib.Core.Bool.{Bool, true, false, _&&_}
 use mathlib.Core.List.{List, [], _∷_, _++_}
 use Prim.Native.Nat.{ℕ, zero, suc, _+_, _*_, _/_, _%_, _-_, _≤_, _<_}
+use native.Mathlib.Nat.{add-zero}
 use native.Mathlib.Omega.{arith}
 use native.Mathlib.Decide.{ℕ-discrete}
 use lib.Dec.{eqb, ltb}
 use lib.ListN.{length, getD, set, take, drop, replicate, length-set, length-drop}
-use lib.Seq.{getD-set-same, getD-set-other, getD-take, length-take-le, ext-getD}
+use lib.Seq.{getD-set-same, getD-set-other, getD-take, getD-drop, length-take-le, ext-getD}
 use borrow.Author.Tests.{ltb-true, lt-ltb, eqb-true, eq-eqb}
 use borrow.Rule.Slice.PartMut.{putMid}
 use Rattle.laws.specs.Bools.{bit}
@@ -21,12 +22,12 @@ use Rattle.pairs.specs.declared.Rec.{Rec}
 use Rattle.pairs.specs.Records.{none, recs, words}
 use Rattle.pairs.specs.Order.{Perm, Sorts}
 use Rattle.pairs.specs.Sides.{pairCount, next, over, overFlags, sideOf, sides}
-use Rattle.pairs.specs.Runs.{samePair, flagged, crowded, marked}
+use Rattle.pairs.specs.Runs.{samePair, Front, flagged, crowded, marked}
 use Rattle.pairs.specs.Flags.{sent, pulled, Homed}
 use Rattle.pairs.proofs.Records.{recs-getD, recs-words}
 use Rattle.pairs.proofs.Order.{perm-length, perm-all}
-use Rattle.pairs.proofs.Runs.{same-left, ends-same}
-use Rattle.pairs.proofs.Sides.{sides-length, sides-at, pair-count, flags-length, over-flag-at}
+use Rattle.pairs.proofs.Runs.{same-ends, same-left, ends-same, run-count}
+use Rattle.pairs.proofs.Sides.{sides-length, sides-at, pair-count, pair-ends, flags-length, over-flag-at}
 
 -- ---- sending
 
@@ -142,16 +143,34 @@ module _ (s : List ℕ) (whole : length s % 3 ≡ 0) (l : List Rec) (perm : Perm
       let f = count-find none q l (omega (arith, perm .same q)) in
       (f .0, omega (arith, f .1, count-is), eqb-true (getD l (f .0) none .side) k (f .2))
 
-  -- a record's pair is crowded just where its side is over
-  crowded-over : (j : ℕ) → j < length s → crowded l (getD l j none) ≡ over s (at j)
-  unfolding crowded over
-  crowded-over j h =
+  -- the records with one record's pair are as many as the sides with its ends
+  count-pairs : (j : ℕ) → j < length s → count (samePair (getD l j none)) l ≡ pairCount (getD s (at j) 0) (getD s (next (at j)) 0) s
+  count-pairs j h =
       let x : Rec = getD l j none in
       let k : ℕ = at j in
       let p = at-home j h in
-      ap (ltb 2)
-      (perm .same (samePair x) ∙ count-same (samePair x) (samePair (getD (sides s) k none)) (same-left x (getD (sides s) k none) (p .1)) (sides s)
-      ∙ ap (λ (r : Rec). count (samePair r) (sides s)) (sides-at s whole k (p .0)) ∙ pair-count (getD s k 0) (getD s (next k) 0) k s)
+      perm .same (samePair x) ∙ count-same (samePair x) (samePair (getD (sides s) k none)) (same-left x (getD (sides s) k none) (p .1)) (sides s)
+      ∙ ap (λ (r : Rec). count (samePair r) (sides s)) (sides-at s whole k (p .0)) ∙ pair-count (getD s k 0) (getD s (next k) 0) k s
+
+  -- a run's length is the number of sides with its two ends
+  pub run-pairs : (i r : ℕ) → i < length s → All (λ y. samePair y (getD l i none) ≡ false) (take i l) → Front (drop i l) r
+      → r ≡ pairCount (getD l i none .low) (getD l i none .high) s
+  unfolding sideOf
+  run-pairs i r h a f =
+      let x : Rec = getD l i none in
+      let e : getD (drop i l) 0 none ≡ x = getD-drop i l 0 none ∙ ap (λ (k : ℕ). getD l k none) (add-zero i) in
+      let c : count (samePair x) l ≡ r = rw e at (run-count l i r (rw e a) f) in
+      let k : ℕ = at i in
+      let p = at-home i h in
+      let q = same-ends x (getD (sides s) k none) (p .1) in
+      let g = sides-at s whole k (p .0) in
+      sym c ∙ count-pairs i h
+      ∙ pair-ends (getD s k 0) (getD s (next k) 0) (x .low) (x .high) s (q .0 ∙ ap (λ (y : Rec). y .low) g) (q .1 ∙ ap (λ (y : Rec). y .high) g)
+
+  -- a record's pair is crowded just where its side is over
+  crowded-over : (j : ℕ) → j < length s → crowded l (getD l j none) ≡ over s (at j)
+  unfolding crowded over
+  crowded-over j h = ap (ltb 2) (count-pairs j h)
 
   module _ (t : List ℕ) (size : length t ≡ length s * 3) (flags : recs t ≡ marked l l) where
     word-side : (j : ℕ) → j < length s → getD t (j * 3 + 2) 0 ≡ at j

@@ -5,3 +5,4 @@ pub mod Depth
 pub mod Runs
 pub mod Sides
 pub mod Flags
+pub mod Determined

@@ -100,6 +100,17 @@ front-count l r f =
     let whole : count p (take r l ++ drop r l) ≡ r = omega (arith, count-append p (take r l) (drop r l)) in
     rw (take-append-drop r l) at whole
 
+-- ---- the run from record i on, of whose pair no record stands before
+
+pub run-count : (l : List Rec) (i r : ℕ) → All (λ y. samePair y (getD (drop i l) 0 none) ≡ false) (take i l) → Front (drop i l) r
+    → count (samePair (getD (drop i l) 0 none)) l ≡ r
+run-count l i r a f =
+    let x : Rec = getD (drop i l) 0 none in
+    let before : count (samePair x) (take i l) ≡ 0 =
+    all-count-none (samePair x) (take i l) (all-map (λ y. samePair y x ≡ false) (λ y. samePair x y ≡ false) (λ y e. same-sym x y ∙ e) (take i l) a) in
+    let whole : count (samePair x) (take i l ++ drop i l) ≡ r = omega (arith, count-append (samePair x) (take i l) (drop i l), front-count (drop i l) r f) in
+    rw (take-append-drop i l) at whole
+
 -- ---- one flag
 
 pub flag-up : {f : Bool} {x y : Rec} → f ≡ true → x ≡ y → record { low = x .low; high = 1; side = x .side } ≡ flagged f y
@@ -144,13 +155,9 @@ module _ {l m : List Rec} {i : ℕ} (within : i ≤ length l) (w : Walked l m i)
   -- the count in the whole list of the pair that comes next
   pub walked-count : {r : ℕ} → Front (drop i l) r → count (samePair (getD (drop i l) 0 none)) l ≡ r
   walked-count {r} f =
-      let x : Rec = getD (drop i l) 0 none in
-      let before : count (samePair x) (take i l) ≡ 0 =
-      all-count-none (samePair x) (take i l)
-      (all-map (λ y. All (λ z. samePair y z ≡ false) (drop i l)) (λ y. samePair x y ≡ false)
-      (λ y a. same-sym x y ∙ all-member none (λ z. samePair y z ≡ false) (drop i l) a 0 (omega (arith, f .some, f .within))) (take i l) (w .apart)) in
-      let whole : count (samePair x) (take i l ++ drop i l) ≡ r = omega (arith, count-append (samePair x) (take i l) (drop i l), front-count (drop i l) r f) in
-      rw (take-append-drop i l) at whole
+      run-count l i r
+      (all-map (λ y. All (λ z. samePair y z ≡ false) (drop i l)) (λ y. samePair y (getD (drop i l) 0 none) ≡ false)
+      (λ y a. all-member none (λ z. samePair y z ≡ false) (drop i l) a 0 (omega (arith, f .some, f .within))) (take i l) (w .apart)) f
 
   -- so the flags of the run are those of its records
   run-flags : {r : ℕ} → Front (drop i l) r → map (flagged (ltb 2 r)) (take r (drop i l)) ≡ marked l (take r (drop i l))

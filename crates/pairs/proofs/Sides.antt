@@ -6,7 +6,7 @@ use mathlib.Core.List.{List, [], _∷_, _++_}
 use Prim.Native.Nat.{ℕ, zero, suc, _+_, _*_, _/_, _%_, _≤_, _<_, min, max}
 use native.Mathlib.Nat.{zero-add}
 use native.Mathlib.Omega.{arith}
-use native.Mathlib.Decide.{ℕ-discrete}
+use native.Mathlib.Decide.{ℕ-discrete, decLt}
 use lib.Dec.{eqb, ltb}
 use lib.ListN.{length, getD}
 use borrow.Author.Tests.{eqb-true, eq-eqb, ltb-true, lt-ltb}
@@ -134,6 +134,20 @@ pair-count x y j s = numbered-count (samePair (sideOf j (x, y))) (joins x y) (λ
 pub pair-turn : (x y : ℕ) (s : List ℕ) → pairCount x y s ≡ pairCount y x s
 unfolding pairCount joins
 pair-turn x y s = count-same (joins x y) (joins y x) (λ p. or-comm (fromTo x y p) (fromTo y x p)) (directed s)
+
+-- the count by the lower and the higher end
+pub pair-ends : (u v low high : ℕ) (s : List ℕ) → low ≡ min u v → high ≡ max u v → pairCount u v s ≡ pairCount low high s
+pair-ends u v low high s e f =
+    elim (decLt u v) [
+      | yes h ↦
+          (let a : u ≡ low = omega (arith, h) in
+          let b : v ≡ high = omega (arith, h) in
+          ap₂ (λ (x y : ℕ). pairCount x y s) a b)
+      | no h ↦
+          (let a : v ≡ low = omega (arith, h) in
+          let b : u ≡ high = omega (arith, h) in
+          pair-turn u v s ∙ ap₂ (λ (x y : ℕ). pairCount x y s) a b)
+    ]
 
 from-ends : (x y : ℕ) (p : Pair) → fromTo x y p ≡ true → (p .0 ≡ x) × (p .1 ≡ y)
 unfolding fromTo
