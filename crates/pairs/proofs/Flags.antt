@@ -1,7 +1,7 @@
 -- Laws of the flags on their way from the records to the places of their sides. Assumes nothing.
 use mathlib.Core.Path.{_≡_, refl, sym, ap, ap₂, _∙_}
 use mathlib.Core.Bool.{Bool, true, false, _&&_}
-use mathlib.Core.List.{List, [], _∷_, _++_}
+use mathlib.Core.List.{List, _++_}
 use Prim.Native.Nat.{ℕ, zero, suc, _+_, _*_, _/_, _%_, _-_, _≤_, _<_}
 use native.Mathlib.Nat.{add-zero}
 use native.Mathlib.Omega.{arith}
@@ -15,7 +15,7 @@ use Rattle.laws.specs.Bools.{bit}
 use Rattle.laws.specs.Lists.{count, All}
 use Rattle.laws.specs.Ranges.{fold}
 use Rattle.laws.proofs.Bools.{and-apart, and-yes}
-use Rattle.laws.proofs.Lists.{count-same, count-some, count-find, all-index, all-member, map-at, map-length}
+use Rattle.laws.proofs.Lists.{count-same, count-some, count-find, all-index, all-member, map-at}
 use Rattle.laws.proofs.Ranges.{fold-keeps}
 use Rattle.laws.proofs.Tails.{tail-is, tail-back}
 use Rattle.pairs.specs.declared.Rec.{Rec}
@@ -24,7 +24,7 @@ use Rattle.pairs.specs.Order.{Perm, Sorts}
 use Rattle.pairs.specs.Sides.{pairCount, next, over, overFlags, sideOf, sides}
 use Rattle.pairs.specs.Runs.{samePair, Front, flagged, crowded, marked}
 use Rattle.pairs.specs.Flags.{sent, pulled, Homed}
-use Rattle.pairs.proofs.Records.{recs-getD, recs-words}
+use Rattle.pairs.proofs.Records.{rec-same, recs-getD, recs-words}
 use Rattle.pairs.proofs.Order.{perm-length, perm-all}
 use Rattle.pairs.proofs.Runs.{same-ends, same-left, ends-same, run-count}
 use Rattle.pairs.proofs.Sides.{sides-length, sides-at, pair-count, pair-ends, flags-length, over-flag-at}
@@ -123,18 +123,27 @@ module _ (s : List ℕ) (whole : length s % 3 ≡ 0) (l : List Rec) (perm : Perm
       (rw n (ends-same (getD (sides s) k none) (getD (sides s) k none) refl refl))))
 
   -- the number of its side
-  at : ℕ → ℕ
+  abbrev at : ℕ → ℕ
   at j = getD l j none .side
 
   at-home : (j : ℕ) → j < length s → (at j < length s) × (samePair (getD l j none) (getD (sides s) (at j) none) ≡ true)
-  unfolding home at
+  unfolding home
   at-home j h =
       let p = and-apart (ltb (at j) (length s)) (samePair (getD l j none) (getD (sides s) (at j) none)) (all-member none (λ r. home r ≡ true) l all-home j (omega (arith, count-is))) in
       (ltb-true (at j) (length s) (p .0), p .1)
 
+  -- the record is that of its side, so the direction is read off the triangles
+  pub record-side : (j : ℕ) → j < length s → getD l j none ≡ sideOf (at j) (getD s (at j) 0, getD s (next (at j)) 0)
+  unfolding sideOf
+  record-side j h =
+      let p = at-home j h in
+      let e = sides-at s whole (at j) (p .0) in
+      let q = same-ends (getD l j none) (getD (sides s) (at j) none) (p .1) in
+      rec-same (getD l j none) (sideOf (at j) (getD s (at j) 0, getD s (next (at j)) 0)) (q .0 ∙ ap (λ (r : Rec). r .low) e) (q .1 ∙ ap (λ (r : Rec). r .high) e) refl
+
   -- every side has a record
   found : (k : ℕ) → k < length s → (j : ℕ) × (j < length s) × (at j ≡ k)
-  unfolding at sideOf
+  unfolding sideOf
   found k h =
       let q : Rec → Bool = λ r. eqb (r .side) k in
       let e = sides-at s whole k h in
@@ -174,7 +183,7 @@ module _ (s : List ℕ) (whole : length s % 3 ≡ 0) (l : List Rec) (perm : Perm
 
   module _ (t : List ℕ) (size : length t ≡ length s * 3) (flags : recs t ≡ marked l l) where
     word-side : (j : ℕ) → j < length s → getD t (j * 3 + 2) 0 ≡ at j
-    unfolding marked flagged at
+    unfolding marked flagged
     word-side j h =
         sym (ap (λ (r : Rec). r .side) (recs-getD t j (omega arith))) ∙ ap (λ (m : List Rec). getD m j none .side) flags
         ∙ ap (λ (r : Rec). r .side) (map-at none none (λ x. flagged (crowded l x) x) l j (omega (arith, count-is)))

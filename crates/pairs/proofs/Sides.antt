@@ -1,21 +1,20 @@
 -- Laws of the sides of triangles: each by its number, how often a pair is counted, and what the flags say. Assumes nothing.
 use mathlib.Core.Path.{_≡_, refl, sym, ap, ap₂, _∙_}
-use mathlib.Core.Bool.{Bool, true, false, _&&_, _||_, or-comm, or-true}
+use mathlib.Core.Bool.{Bool, true, _&&_, _||_, or-comm, or-true}
 use mathlib.Core.Logic.{_⊎_, inl, inr, ⊎-elim}
-use mathlib.Core.List.{List, [], _∷_, _++_}
+use mathlib.Core.List.{List, [], _∷_}
 use Prim.Native.Nat.{ℕ, zero, suc, _+_, _*_, _/_, _%_, _≤_, _<_, min, max}
 use native.Mathlib.Nat.{zero-add}
 use native.Mathlib.Omega.{arith}
 use native.Mathlib.Decide.{ℕ-discrete, decLt}
-use lib.Dec.{eqb, ltb}
+use lib.Dec.{eqb}
 use lib.ListN.{length, getD}
 use borrow.Author.Tests.{eqb-true, eq-eqb, ltb-true, lt-ltb}
 use Rattle.laws.specs.Bools.{bit}
-use Rattle.laws.specs.Lists.{count, All}
-use Rattle.laws.specs.Ranges.{each}
+use Rattle.laws.specs.Lists.{count}
 use Rattle.laws.specs.Couples.{Pair, fromTo}
-use Rattle.laws.proofs.Bools.{and-apart, and-yes, or-apart, bool-ext, bit-or, bit-T, T-true}
-use Rattle.laws.proofs.Lists.{count-same, count-find, all-index}
+use Rattle.laws.proofs.Bools.{and-apart, or-apart, bool-ext, bit-or, bit-T, T-true}
+use Rattle.laws.proofs.Lists.{count-same, count-find}
 use Rattle.laws.proofs.Ranges.{each-one-length, each-one-at}
 use Rattle.pairs.specs.declared.Rec.{Rec}
 use Rattle.pairs.specs.Records.{none}

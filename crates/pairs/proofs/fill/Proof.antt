@@ -1,7 +1,7 @@
 -- `pairs::fill` meets its contract: the first k records are the first k sides. Assumes nothing.
 use mathlib.Core.Path.{_≡_, refl, sym, ap, _∙_}
 use mathlib.Core.List.{List}
-use Prim.Native.Nat.{ℕ, _+_, _*_, _-_, _/_, _≤_, _<_}
+use Prim.Native.Nat.{_+_, _-_, _≤_}
 use native.Mathlib.Omega.{arith}
 use lib.ListN.{length, take}
 use lib.Seq.{take-all}
@@ -13,9 +13,6 @@ use Rattle.pairs.proofs.Records.{recs-length, words-whole}
 use Rattle.pairs.proofs.Sides.{sides-length}
 use Rattle.pairs.proofs.fill.Statement.{statement}
 use Rattle.pairs.proofs.fill.Tie as tie
-use Rattle.pairs.proofs.fill.Reads as reads
-use Rattle.pairs.proofs.fill.Lts as lts
-use Rattle.pairs.proofs.put.Reads as put-reads
 
 abbrev Inv-loop : tie.InvT-loop
 Inv-loop tris room₀ k₀ room k = (k ≤ length tris) × (length room ≡ length room₀) × (take k (recs room) ≡ take k (sides tris))

@@ -4,10 +4,6 @@ use borrow.Author.Needs.{needs}
 use Rattle.pairs.proofs.Records.{recs-length}
 use Rattle.pairs.proofs.flag_run.Statement.{statement}
 use Rattle.pairs.proofs.flag_run.Tie as tie
-use Rattle.pairs.proofs.flag_run.Reads as reads
-use Rattle.pairs.proofs.flag_run.Lts as lts
-use Rattle.pairs.proofs.put_flags.Reads as put-flags-reads
-use Rattle.pairs.proofs.run.Reads as run-reads
 
 run-requires : tie.Need-run-requires
 run-requires c κs = search needs

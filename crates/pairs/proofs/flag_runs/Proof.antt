@@ -1,8 +1,8 @@
 -- `pairs::flag_runs` meets its contract: the first i records are whole runs with their flags. Assumes nothing.
 use mathlib.Core.Path.{_≡_, refl, ap, _∙_}
-use Prim.Native.Nat.{ℕ, _+_, _*_, _-_, _/_, _≤_, _<_}
+use Prim.Native.Nat.{_*_, _-_, _/_, _≤_}
 use native.Mathlib.Omega.{arith}
-use lib.ListN.{length, take, drop, length-drop}
+use lib.ListN.{length, length-drop}
 use Rattle.laws.proofs.Tails.{tail-is, tail-back, tail-length}
 use Rattle.pairs.specs.Records.{recs}
 use Rattle.pairs.proofs.Records.{recs-length}
@@ -10,9 +10,6 @@ use Rattle.pairs.proofs.Order.{sorted-drop}
 use Rattle.pairs.proofs.Runs.{Walked, walked-none, walked-part, walked-within, walked-words, walked-done}
 use Rattle.pairs.proofs.flag_runs.Statement.{statement}
 use Rattle.pairs.proofs.flag_runs.Tie as tie
-use Rattle.pairs.proofs.flag_runs.Reads as reads
-use Rattle.pairs.proofs.flag_runs.Lts as lts
-use Rattle.pairs.proofs.flag_run.Reads as flag-run-reads
 
 abbrev Inv-loop : tie.InvT-loop
 Inv-loop s₀ all i₀ s i = (all ≡ length s₀ / 3) × (i ≤ all) × (length s ≡ length s₀) × Walked (recs s₀) (recs s) i

@@ -1,7 +1,6 @@
 -- `pairs::gather` meets its contract: after k turns the list is `fold pulled k` of what it was. Assumes nothing.
-use mathlib.Core.Path.{_≡_, refl, sym, ap, _∙_}
-use mathlib.Core.List.{List}
-use Prim.Native.Nat.{ℕ, _+_, _*_, _-_, _/_, _≤_, _<_}
+use mathlib.Core.Path.{_≡_, refl, sym, _∙_}
+use Prim.Native.Nat.{_*_, _-_, _/_, _≤_}
 use native.Mathlib.Omega.{arith}
 use lib.ListN.{length, getD, length-set}
 use Rattle.laws.specs.Ranges.{fold}
@@ -9,8 +8,6 @@ use Rattle.laws.proofs.Ranges.{fold-none, fold-turn, fold-done}
 use Rattle.pairs.specs.Flags.{pulled}
 use Rattle.pairs.proofs.gather.Statement.{statement}
 use Rattle.pairs.proofs.gather.Tie as tie
-use Rattle.pairs.proofs.gather.Reads as reads
-use Rattle.pairs.proofs.gather.Lts as lts
 
 abbrev Inv-loop : tie.InvT-loop
 Inv-loop s₀ n k₀ s k = (n ≡ length s₀ / 3) × (k ≤ n) × (length s ≡ length s₀) × (s ≡ fold pulled k s₀)

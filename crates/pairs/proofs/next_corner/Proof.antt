@@ -4,8 +4,6 @@ use borrow.Author.Needs.{needs}
 use Rattle.pairs.specs.Sides.{next}
 use Rattle.pairs.proofs.next_corner.Statement.{statement}
 use Rattle.pairs.proofs.next_corner.Tie as tie
-use Rattle.pairs.proofs.next_corner.Reads as reads
-use Rattle.pairs.proofs.next_corner.Lts as lts
 
 sub-result : tie.Need-sub-result
 sub-result c = search needs

@@ -6,14 +6,6 @@ use lib.ListN.{length}
 use Rattle.pairs.proofs.Flags.{filled-perm, flagged-homed, cleared}
 use Rattle.pairs.proofs.over_sides.Statement.{statement}
 use Rattle.pairs.proofs.over_sides.Tie as tie
-use Rattle.pairs.proofs.over_sides.Reads as reads
-use Rattle.pairs.proofs.over_sides.Lts as lts
-use Rattle.pairs.proofs.clear.Reads as clear-reads
-use Rattle.pairs.proofs.fill.Reads as fill-reads
-use Rattle.pairs.proofs.flag_runs.Reads as flag-runs-reads
-use Rattle.pairs.proofs.gather.Reads as gather-reads
-use Rattle.pairs.proofs.scatter.Reads as scatter-reads
-use Rattle.pairs.proofs.sort.Reads as sort-reads
 
 fill-requires : tie.Need-fill-requires
 fill-requires c κs = search needs

@@ -8,10 +8,6 @@ use Rattle.pairs.specs.Records.{recs}
 use Rattle.pairs.proofs.Sides.{side-up, side-down, next-within}
 use Rattle.pairs.proofs.put.Statement.{statement}
 use Rattle.pairs.proofs.put.Tie as tie
-use Rattle.pairs.proofs.put.Reads as reads
-use Rattle.pairs.proofs.put.Lts as lts
-use Rattle.pairs.proofs.next_corner.Reads as next-corner-reads
-use Rattle.pairs.proofs.store.Reads as store-reads
 
 mul-u : tie.Need-mul-u
 mul-u c = search needs

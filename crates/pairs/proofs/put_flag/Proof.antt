@@ -7,10 +7,6 @@ use Rattle.pairs.specs.Records.{recs}
 use Rattle.pairs.proofs.Runs.{flag-up, flag-down}
 use Rattle.pairs.proofs.put_flag.Statement.{statement}
 use Rattle.pairs.proofs.put_flag.Tie as tie
-use Rattle.pairs.proofs.put_flag.Reads as reads
-use Rattle.pairs.proofs.put_flag.Lts as lts
-use Rattle.pairs.proofs.load.Reads as load-reads
-use Rattle.pairs.proofs.store.Reads as store-reads
 
 load-requires : tie.Need-load-requires
 load-requires c κs = search needs

@@ -1,7 +1,7 @@
 -- `pairs::put_flags` meets its contract: the first i records have the flag. Assumes nothing.
-use mathlib.Core.Path.{_≡_, refl, sym, ap, ap₂, _∙_}
+use mathlib.Core.Path.{_≡_, refl, ap, _∙_}
 use mathlib.Core.List.{List, _++_, map}
-use Prim.Native.Nat.{ℕ, _+_, _*_, _-_, _/_, _≤_, _<_}
+use Prim.Native.Nat.{ℕ, _+_, _-_, _≤_, _<_}
 use native.Mathlib.Omega.{arith}
 use lib.ListN.{length, getD, set, take, drop}
 use Rattle.laws.proofs.Lists.{front-map-at, front-map-more}
@@ -11,9 +11,6 @@ use Rattle.pairs.specs.Runs.{flagged}
 use Rattle.pairs.proofs.Records.{recs-length}
 use Rattle.pairs.proofs.put_flags.Statement.{statement}
 use Rattle.pairs.proofs.put_flags.Tie as tie
-use Rattle.pairs.proofs.put_flags.Reads as reads
-use Rattle.pairs.proofs.put_flags.Lts as lts
-use Rattle.pairs.proofs.put_flag.Reads as put-flag-reads
 
 abbrev Inv-loop : tie.InvT-loop
 Inv-loop s₀ r f i₀ s i = (i ≤ r) × (length s ≡ length s₀) × (recs s ≡ map (flagged f) (take i (recs s₀)) ++ drop i (recs s₀))

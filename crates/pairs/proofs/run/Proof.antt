@@ -1,6 +1,6 @@
 -- `pairs::run` meets its contract: the records before i have the pair of the first. Assumes nothing.
 use mathlib.Core.Path.{_≡_, refl, sym, ap, _∙_}
-use Prim.Native.Nat.{ℕ, _+_, _*_, _-_, _/_, _≤_, _<_}
+use Prim.Native.Nat.{ℕ, _-_, _/_, _≤_, _<_}
 use native.Mathlib.Omega.{arith}
 use borrow.Author.Count.{below-more}
 use lib.ListN.{length, getD}
@@ -11,9 +11,6 @@ use Rattle.pairs.proofs.Order.{words-fit}
 use Rattle.pairs.proofs.Runs.{front-found}
 use Rattle.pairs.proofs.run.Statement.{statement}
 use Rattle.pairs.proofs.run.Tie as tie
-use Rattle.pairs.proofs.run.Reads as reads
-use Rattle.pairs.proofs.run.Lts as lts
-use Rattle.pairs.proofs.pair_at.Reads as pair-at-reads
 
 abbrev Inv-loop : tie.InvT-loop
 Inv-loop s n p i₀ i =

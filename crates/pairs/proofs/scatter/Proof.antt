@@ -1,7 +1,7 @@
 -- `pairs::scatter` meets its contract: after j turns the list is `fold sent j` of what it was. Assumes nothing.
 use mathlib.Core.Path.{_≡_, refl, sym, ap, _∙_}
 use mathlib.Core.List.{List}
-use Prim.Native.Nat.{ℕ, _+_, _*_, _-_, _/_, _≤_, _<_}
+use Prim.Native.Nat.{ℕ, _+_, _*_, _-_, _/_, _≤_}
 use native.Mathlib.Omega.{arith}
 use lib.ListN.{length, getD}
 use Rattle.laws.specs.Ranges.{fold}
@@ -10,9 +10,6 @@ use Rattle.pairs.specs.Flags.{sent}
 use Rattle.pairs.proofs.Flags.{sent-side}
 use Rattle.pairs.proofs.scatter.Statement.{statement}
 use Rattle.pairs.proofs.scatter.Tie as tie
-use Rattle.pairs.proofs.scatter.Reads as reads
-use Rattle.pairs.proofs.scatter.Lts as lts
-use Rattle.pairs.proofs.send.Reads as send-reads
 
 abbrev Inv-loop : tie.InvT-loop
 Inv-loop s₀ n j₀ s j = (n ≡ length s₀ / 3) × (j ≤ n) × (length s ≡ length s₀) × (s ≡ fold sent j s₀)

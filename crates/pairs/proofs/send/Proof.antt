@@ -4,8 +4,6 @@ use borrow.Author.Needs.{needs}
 use Rattle.pairs.specs.Flags.{sent}
 use Rattle.pairs.proofs.send.Statement.{statement}
 use Rattle.pairs.proofs.send.Tie as tie
-use Rattle.pairs.proofs.send.Reads as reads
-use Rattle.pairs.proofs.send.Lts as lts
 
 mul-w : tie.Need-mul-w
 mul-w c = search needs

@@ -4,10 +4,6 @@ use native.Mathlib.Omega.{arith}
 use lib.ListN.{length}
 use Rattle.pairs_main.proofs.show.Statement.{statement}
 use Rattle.pairs_main.proofs.show.Tie as tie
-use Rattle.pairs_main.proofs.show.Reads as reads
-use Rattle.pairs_main.proofs.show.Lts as lts
-use Rattle.pairs_main.proofs.put.Reads as put-reads
-use Rattle.pairs_main.proofs.sign.Reads as sign-reads
 
 abbrev Inv-loop : tie.InvT-loop
 Inv-loop room i₀ i = i ≤ length room
