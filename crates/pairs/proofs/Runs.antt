@@ -16,8 +16,8 @@ use Rattle.laws.proofs.Bools.{and-apart, bool-ext}
 use Rattle.laws.proofs.Lists.{count-append, count-same, all-count, all-count-none, all-append, all-map, all-index, all-member, all-drop-more, map-length, map-append, map-agree}
 use Rattle.laws.proofs.Tails.{tail-is, tail-back}
 use Rattle.pairs.specs.declared.Rec.{Rec}
-use Rattle.pairs.specs.Records.{none, recs}
-use Rattle.pairs.specs.Order.{pairOf, keyOf, Sorted}
+use Rattle.pairs.specs.Records.{none, recs, pairOf, keyOf}
+use Rattle.pairs.specs.Order.{Sorted}
 use Rattle.pairs.specs.Runs.{samePair, Front, flagged, crowded, marked, FrontMarked}
 use Rattle.pairs.proofs.Records.{recs-take, recs-drop, recs-append}
 use Rattle.pairs.proofs.Order.{Fit}

@@ -2,7 +2,7 @@
 use mathlib.Core.Path.{_≡_, refl, sym, ap, ap₂, _∙_}
 use mathlib.Core.Bool.{Bool, true, _&&_, _||_, or-comm, or-true}
 use mathlib.Core.Logic.{_⊎_, inl, inr, ⊎-elim}
-use mathlib.Core.List.{List, [], _∷_}
+use mathlib.Core.List.{List, [], _∷_, _++_}
 use Prim.Native.Nat.{ℕ, zero, suc, _+_, _*_, _/_, _%_, _≤_, _<_, min, max}
 use native.Mathlib.Nat.{zero-add}
 use native.Mathlib.Omega.{arith}
@@ -14,7 +14,7 @@ use Rattle.laws.specs.Bools.{bit}
 use Rattle.laws.specs.Lists.{count}
 use Rattle.laws.specs.Couples.{Pair, fromTo}
 use Rattle.laws.proofs.Bools.{and-apart, or-apart, bool-ext, bit-or, bit-T, T-true}
-use Rattle.laws.proofs.Lists.{count-same, count-find}
+use Rattle.laws.proofs.Lists.{count-append, count-same, count-find}
 use Rattle.laws.proofs.Ranges.{each-one-length, each-one-at}
 use Rattle.pairs.specs.declared.Rec.{Rec}
 use Rattle.pairs.specs.Records.{none}
@@ -46,6 +46,22 @@ directed-at (u ∷ v ∷ w ∷ s) (suc zero) h = refl
 directed-at (u ∷ v ∷ w ∷ s) (suc (suc zero)) h = refl
 directed-at (u ∷ v ∷ w ∷ s) (suc (suc (suc k))) h =
     directed-at s k (omega arith) ∙ ap (λ (j : ℕ). (getD s k 0, getD (u ∷ v ∷ w ∷ s) j 0)) (sym (next-three k))
+
+-- whole triangles, and then more
+pub directed-append : (s t : List ℕ) → length s % 3 ≡ 0 → directed (s ++ t) ≡ directed s ++ directed t
+unfolding directed
+directed-append [] t h = refl
+directed-append (u ∷ []) t h = let z : ⊥ = omega arith in absurd z
+directed-append (u ∷ v ∷ []) t h = let z : ⊥ = omega arith in absurd z
+directed-append (u ∷ v ∷ w ∷ s) t h = ap (λ (l : List Pair). (u, v) ∷ (v, w) ∷ (w, u) ∷ l) (directed-append s t (omega arith))
+
+pub dir-append : (x y : ℕ) (s t : List ℕ) → length s % 3 ≡ 0 → dirCount x y (s ++ t) ≡ dirCount x y s + dirCount x y t
+unfolding dirCount
+dir-append x y s t h = ap (count (fromTo x y)) (directed-append s t h) ∙ count-append (fromTo x y) (directed s) (directed t)
+
+pub pair-append : (x y : ℕ) (s t : List ℕ) → length s % 3 ≡ 0 → pairCount x y (s ++ t) ≡ pairCount x y s + pairCount x y t
+unfolding pairCount
+pair-append x y s t h = ap (count (joins x y)) (directed-append s t h) ∙ count-append (joins x y) (directed s) (directed t)
 
 numbered-length : (n : ℕ) (ps : List Pair) → length (numbered n ps) ≡ length ps
 unfolding numbered

@@ -22,12 +22,6 @@ directed (u ∷ v ∷ w ∷ s) = (u, v) ∷ (v, w) ∷ (w, u) ∷ directed s
 unfoldable pub dirCount : ℕ → ℕ → List ℕ → ℕ
 dirCount x y s = count (fromTo x y) (directed s)
 
--- Working room for the sides: whole triangles, nine words for each, and side numbers that fit a word.
-pub record Room (s room : List ℕ) : Type 0 where
-  pub whole : length s % 3 ≡ 0
-  pub nine : length room ≡ length s * 3
-  pub fits : length s ≤ 4294967296
-
 -- the side has the ends x and y, whichever way it runs
 unfoldable pub joins : ℕ → ℕ → Pair → Bool
 joins x y p = fromTo x y p || fromTo y x p
@@ -58,3 +52,9 @@ numbered k (p ∷ ps) = sideOf k p ∷ numbered (suc k) ps
 
 unfoldable pub sides : List ℕ → List Rec
 sides s = numbered 0 (directed s)
+
+-- Working room for the sides: whole triangles, nine words for each, and side numbers that fit a word.
+pub record Room (s room : List ℕ) : Type 0 where
+  pub whole : length s % 3 ≡ 0
+  pub nine : length room ≡ length s * 3
+  pub fits : length s ≤ 4294967296

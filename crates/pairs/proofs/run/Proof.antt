@@ -4,8 +4,7 @@ use Prim.Native.Nat.{ℕ, _-_, _/_, _≤_, _<_}
 use native.Mathlib.Omega.{arith}
 use borrow.Author.Count.{below-more}
 use lib.ListN.{length, getD}
-use Rattle.pairs.specs.Records.{none, recs}
-use Rattle.pairs.specs.Order.{pairOf}
+use Rattle.pairs.specs.Records.{none, recs, pairOf}
 use Rattle.pairs.proofs.Records.{recs-length}
 use Rattle.pairs.proofs.Order.{words-fit}
 use Rattle.pairs.proofs.Runs.{front-found}
