@@ -74,6 +74,13 @@ unfolding bit
 T-bit true t = refl
 T-bit false t = absurd t
 
+-- of two that never hold together
+pub bit-or : (a b : Bool) → (a ≡ true → b ≡ true → ⊥) → bit (a || b) ≡ bit a + bit b
+unfolding bit
+bit-or true true n = absurd (n refl refl)
+bit-or true false n = refl
+bit-or false b n = omega arith
+
 -- ---- a test at all lists of n truth values
 
 pub bools-at : (n : ℕ) (p : List Bool → Bool) → T (allBools n p) → (l : List Bool) → length l ≡ n → T (p l)

@@ -6,11 +6,11 @@ use Prim.Native.Nat.{ℕ, zero, suc, _+_, _*_, _≤_, _<_}
 use native.Mathlib.Nat.{not-suc-le-zero, le-of-suc-le-suc}
 use native.Mathlib.Numerals.{add-one}
 use native.Mathlib.Omega.{arith}
-use lib.ListN.{length, getD, set, take, drop}
-use lib.Seq.{take-suc, drop-cons}
+use lib.ListN.{length, getD, set, take, drop, length-map}
+use lib.Seq.{take-suc, take-suc-set, drop-cons, getD-at, set-at, length-take-le}
 use Rattle.laws.specs.Bools.{bit}
 use Rattle.laws.specs.Lists.{keep, count, joined, total, All}
-use Rattle.laws.proofs.Bools.{bit-le}
+use Rattle.laws.proofs.Bools.{bit-le, bit-T, T-true}
 
 -- ---- those that pass a test
 
@@ -132,6 +132,12 @@ module _ {A B : Type 0} where
   map-append f [] ys = refl
   map-append f (x ∷ xs) ys = ap (λ (l : List B). f x ∷ l) (map-append f xs ys)
 
+  -- two functions that agree on every member
+  pub map-agree : (f g : A → B) (xs : List A) → All (λ x. f x ≡ g x) xs → map f xs ≡ map g xs
+  unfolding All
+  map-agree f g [] a = refl
+  map-agree f g (x ∷ xs) a = ap₂ (λ (y : B) (l : List B). y ∷ l) (a .0) (map-agree f g xs (a .1))
+
   pub total-map : (f : B → ℕ) (g : A → B) (xs : List A) → total f (map g xs) ≡ total (λ x. f (g x)) xs
   unfolding total
   total-map f g [] = refl
@@ -146,6 +152,27 @@ module _ {A B : Type 0} where
   unfolding total
   total-swap f [] ys = sym (total-zero ys)
   total-swap f (x ∷ xs) ys = ap (λ (n : ℕ). total (f x) ys + n) (total-swap f xs ys) ∙ sym (total-plus (f x) (λ y. total (λ z. f z y) xs) ys)
+
+-- ---- a list changed entry by entry from the front, as a loop does
+
+module _ {A : Type 0} where
+  -- the entry that comes next stands as it was
+  pub front-map-at : (d : A) (f : A → A) (l : List A) (i : ℕ) → i < length l → getD (map f (take i l) ++ drop i l) i d ≡ getD l i d
+  front-map-at d f l i h =
+      ap (λ (q : List A). getD (map f (take i l) ++ q) i d) (drop-cons l i d h)
+      ∙ getD-at (map f (take i l)) (getD l i d) (drop (suc i) l) d i (length-map (take i l) f ∙ length-take-le i l (omega arith))
+
+  pub front-map-more : (d : A) (f : A → A) (l : List A) (i : ℕ) → i < length l
+      → set (map f (take i l) ++ drop i l) i (f (getD l i d)) ≡ map f (take (i + 1) l) ++ drop (i + 1) l
+  front-map-more d f l i h =
+      let n : length (map f (take i l)) ≡ i = length-map (take i l) f ∙ length-take-le i l (omega arith) in
+      ap (λ (q : List A). set (map f (take i l) ++ q) i (f (getD l i d))) (drop-cons l i d h)
+      ∙ set-at (map f (take i l)) (getD l i d) (drop (suc i) l) (f (getD l i d)) i n
+      ∙ rw (add-one, take-suc l i d h, map-append f (take i l) (getD l i d ∷ []), append-assoc)
+
+  -- a list that is another one as far as k, and then one entry further
+  pub copied-more : (d : A) (l m : List A) (k : ℕ) → k < length l → k < length m → take k l ≡ take k m → take (k + 1) (set l k (getD m k d)) ≡ take (k + 1) m
+  copied-more d l m k h g e = rw (add-one, take-suc-set l k (getD m k d) h, take-suc m k d g, e)
 
 -- ---- what holds of every member
 
@@ -179,3 +206,62 @@ module _ {A : Type 0} where
   pub all-drop : (d : A) (P : A → Type 0) (l : List A) (j : ℕ) → j < length l → All P (drop (suc j) l) → P (getD l j d) → All P (drop j l)
   unfolding All
   all-drop d P l j h a e = rw (drop-cons l j d) (e, a)
+
+  pub all-both : (P Q : A → Type 0) (l : List A) → All P l → All Q l → All (λ x. P x × Q x) l
+  unfolding All
+  all-both P Q [] a b = tt
+  all-both P Q (x ∷ l) a b = ((a .0, b .0), all-both P Q l (a .1) (b .1))
+
+  -- of a part, what holds of the whole
+  pub all-take-more : (P : A → Type 0) (l : List A) (i : ℕ) → All P l → All P (take i l)
+  unfolding All
+  all-take-more P l zero a = tt
+  all-take-more P [] (suc i) a = tt
+  all-take-more P (x ∷ l) (suc i) a = (a .0, all-take-more P l i (a .1))
+
+  pub all-drop-more : (P : A → Type 0) (l : List A) (i : ℕ) → All P l → All P (drop i l)
+  unfolding All
+  all-drop-more P l zero a = a
+  all-drop-more P [] (suc i) a = tt
+  all-drop-more P (x ∷ l) (suc i) a = all-drop-more P l i (a .1)
+
+  -- ---- counts of a test that all pass, or some do not
+
+  pub all-count : (p : A → Bool) (l : List A) → All (λ x. p x ≡ true) l → count p l ≡ length l
+  unfolding All count bit
+  all-count p [] a = refl
+  all-count p (x ∷ l) a = omega (arith, ap bit (a .0), all-count p l (a .1))
+
+  pub all-count-none : (p : A → Bool) (l : List A) → All (λ x. p x ≡ false) l → count p l ≡ 0
+  unfolding All count bit
+  all-count-none p [] a = refl
+  all-count-none p (x ∷ l) a = omega (arith, ap bit (a .0), all-count-none p l (a .1))
+
+  pub count-all : (p : A → Bool) (l : List A) → count p l ≡ length l → All (λ x. p x ≡ true) l
+  unfolding All count
+  count-all p [] e = tt
+  count-all p (x ∷ l) e =
+      (T-true (p x) (bit-T (p x) (omega (arith, count-le p l, bit-le (p x)))), count-all p l (omega (arith, count-le p l, bit-le (p x))))
+
+  pub count-not-all : (d : A) (p : A → Bool) (l : List A) (k : ℕ) → k < length l → p (getD l k d) ≡ false → count p l < length l
+  unfolding count bit
+  count-not-all d p [] k h e = absurd (not-suc-le-zero h)
+  count-not-all d p (x ∷ l) zero h e = omega (arith, ap bit e, count-le p l)
+  count-not-all d p (x ∷ l) (suc k) h e = omega (arith, count-not-all d p l k (le-of-suc-le-suc h) e, bit-le (p x))
+
+  -- one that passes, where some do
+  pub count-find : (d : A) (p : A → Bool) (l : List A) → 0 < count p l → (k : ℕ) × (k < length l) × (p (getD l k d) ≡ true)
+  unfolding count bit
+  count-find d p [] h = absurd (not-suc-le-zero h)
+  count-find d p (x ∷ l) h = go (p x) refl h (count-find d p l)
+    where
+      go : (b : Bool) → p x ≡ b → 0 < bit b + count p l → (0 < count p l → (k : ℕ) × (k < length l) × (p (getD l k d) ≡ true))
+          → (k : ℕ) × (k < suc (length l)) × (p (getD (x ∷ l) k d) ≡ true)
+      go true e g f = (0, omega arith, e)
+      go false e g f = let r = f (omega arith) in (suc (r .0), omega (arith, r .1), r .2)
+
+  -- two tests that agree on every member
+  pub count-agree : (p q : A → Bool) (l : List A) → All (λ x. p x ≡ q x) l → count p l ≡ count q l
+  unfolding All count
+  count-agree p q [] a = refl
+  count-agree p q (x ∷ l) a = ap₂ (λ (c : Bool) (n : ℕ). bit c + n) (a .0) (count-agree p q l (a .1))

@@ -141,22 +141,24 @@ module _ {A : Type 0} where
   each-rows zero n f = rw zero-mul
   each-rows (suc m) n f = rw (suc-mul, each-add (m * n) n f, each-rows m n f)
 
--- one entry for each number
-module _ {A : Type 0} (f : ℕ → A) where
-  pub singles-length : (n : ℕ) → length (each n (λ i. f i ∷ [])) ≡ n
+  -- a list given entry by entry: its length, and its entries
+  pub each-one-length : (n : ℕ) (f : ℕ → A) → length (each n (λ i. f i ∷ [])) ≡ n
   unfolding each
-  singles-length zero = refl
-  singles-length (suc n) = length-append (each n (λ i. f i ∷ [])) (f n ∷ []) ∙ omega (arith, singles-length n)
+  each-one-length zero f = refl
+  each-one-length (suc n) f = length-append (each n (λ i. f i ∷ [])) (f n ∷ []) ∙ ap (λ (k : ℕ). k + 1) (each-one-length n f) ∙ add-one n
 
-  pub singles-at : (d : A) (n i : ℕ) → i < n → getD (each n (λ i. f i ∷ [])) i d ≡ f i
+  pub each-one-at : (d : A) (n : ℕ) (f : ℕ → A) (k : ℕ) → k < n → getD (each n (λ i. f i ∷ [])) k d ≡ f k
   unfolding each
-  singles-at d zero i h = absurd (not-suc-le-zero h)
-  singles-at d (suc n) i h =
+  each-one-at d zero f k h = absurd (not-suc-le-zero h)
+  each-one-at d (suc n) f k h =
       ⊎-elim
-      (λ l. List·getD-append (each n (λ i. f i ∷ [])) (f n ∷ []) d i (omega (arith, singles-length n)) ∙ singles-at d n i l)
+      (λ l.
+      List·getD-append (each n (λ i. f i ∷ [])) (f n ∷ []) d k (omega (arith, each-one-length n f))
+      ∙ each-one-at d n f k l)
       (λ g.
-      let q : i ≡ n = omega arith in
-      getD-at (each n (λ i. f i ∷ [])) (f n) [] d i (singles-length n ∙ sym q) ∙ ap f (sym q)) (lt-or i n)
+      let q : k ≡ n = omega arith in
+      ap (λ (j : ℕ). getD (each n (λ i. f i ∷ []) ++ f n ∷ []) j d) q ∙ getD-at (each n (λ i. f i ∷ [])) (f n) [] d n (each-one-length n f) ∙ ap f (sym q))
+      (lt-or k n)
 
 -- ---- tests at every number below a bound
 

@@ -13,7 +13,7 @@ use lib.Ieee.{Float, lt}
 use Rattle.laws.specs.Bools.{bit}
 use Rattle.laws.specs.Ranges.{fold, any, each}
 use Rattle.laws.specs.Digits.{digit, isSet, mask}
-use Rattle.laws.proofs.Ranges.{eq-or, lt-or, fold-inv, singles-length, singles-at}
+use Rattle.laws.proofs.Ranges.{eq-or, lt-or, fold-inv, each-one-length, each-one-at}
 use Rattle.laws.proofs.Digits.{digit-is, digit-zero, digit-unset, digit-ext, mask-digit, mask-lt}
 use Rattle.sides.specs.declared.Crossing.{Crossing}
 use Rattle.sides.specs.declared.Crossing.the-variants.{SameSide, At}
@@ -125,7 +125,7 @@ module _ (n : Sides) (rest : List ℕ) where
 
     table-length : length table ≡ sites n
     unfolding table
-    table-length = singles-length (maskAt n S h) (sites n)
+    table-length = each-one-length (sites n) (maskAt n S h)
 
     same-length : length done ≡ length (table ++ rest)
     same-length = kept .len ∙ omega (arith, length-append (replicate (sites n) 0) rest, zeros, length-append table rest, table-length)
@@ -139,7 +139,7 @@ module _ (n : Sides) (rest : List ℕ) where
     unfolding table
     same-at x =
         ⊎-elim
-        (λ l. mask-is x l ∙ sym (List·getD-append (each (sites n) (λ s. maskAt n S h s ∷ [])) rest 0 x (omega (arith, table-length)) ∙ singles-at (maskAt n S h) 0 (sites n) x l))
+        (λ l. mask-is x l ∙ sym (List·getD-append (each (sites n) (λ s. maskAt n S h s ∷ [])) rest 0 x (omega (arith, table-length)) ∙ each-one-at 0 (sites n) (maskAt n S h) x l))
         (λ g. kept .past x g ∙ behind (replicate (sites n) 0) x zeros g ∙ sym (behind table x table-length g)) (lt-or x (sites n))
 
     pub masks-are : markSites n S h (sites n) (cleared n rest) ≡ masksOf n S h ++ rest

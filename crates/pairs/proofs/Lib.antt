@@ -1,0 +1,8 @@
+-- Laws that several proofs use, and those of crates above.
+pub mod Records
+pub mod Order
+pub mod Depth
+pub mod Runs
+pub mod Sides
+pub mod Flags
+pub mod Determined

@@ -1,0 +1,16 @@
+-- The flags of the records brought to the places of their sides, in words: three words a record, the flag in the second and the side's number in the third.
+use mathlib.Core.List.{List}
+use Prim.Native.Nat.{ℕ, _+_, _*_, _/_, _<_}
+use lib.ListN.{length, getD, set}
+
+-- the flag of record j goes to the first word of the record that stands at the place of j's side
+unfoldable pub sent : ℕ → List ℕ → List ℕ
+sent j s = set s (getD s (j * 3 + 2) 0 * 3) (getD s (j * 3 + 1) 0)
+
+-- the first word of record k goes to word k
+unfoldable pub pulled : ℕ → List ℕ → List ℕ
+pulled k s = set s k (getD s (k * 3) 0)
+
+-- the side numbers are below the number of records
+abbrev pub Homed : List ℕ → Type 0
+Homed s = (j : ℕ) → j < length s / 3 → getD s (j * 3 + 2) 0 < length s / 3
