@@ -1,0 +1,3 @@
+-- What the topology test is proved by, and what is proved of its answers.
+pub mod Walk
+pub mod WalkLoops
