@@ -126,6 +126,30 @@ digit-ext (suc k) a b p q h =
     let o : a % 2 ≡ b % 2 = h 0 (omega arith) in
     omega arith
 
+pow-pos : (k : ℕ) → 0 < 2 ^ k
+pow-pos zero = omega arith
+pow-pos (suc k) = omega (arith, pow-suc 2 k, pow-pos k)
+
+below-pow : (a : ℕ) → a < 2 ^ a
+below-pow zero = omega arith
+below-pow (suc a) = omega (arith, pow-suc 2 a, below-pow a)
+
+-- a mask of k ones
+pub digit-all : (k e : ℕ) → e < k → digit (2 ^ k - 1) e ≡ 1
+unfolding digit
+digit-all zero e h = absurd (not-suc-le-zero h)
+digit-all (suc k) zero h = omega (arith, pow-suc 2 k, pow-pos k)
+digit-all (suc k) (suc e) h = ap (λ (x : ℕ). digit x e) (half-ones k) ∙ digit-all k e (omega arith)
+  where
+    half-ones : (k : ℕ) → (2 ^ suc k - 1) / 2 ≡ 2 ^ k - 1
+    half-ones k = omega (arith, pow-suc 2 k, pow-pos k)
+
+-- a mask without a digit at or above k is one of k digits
+pub digit-short : (k a : ℕ) → ((e : ℕ) → k ≤ e → digit a e ≡ 0) → a < 2 ^ k
+unfolding digit
+digit-short zero a h = let z : a ≡ 0 = digit-ext a a 0 (below-pow a) (omega (arith, below-pow a)) (λ e l. h e (omega arith) ∙ sym (digit-zero e)) in omega arith
+digit-short (suc k) a h = omega (arith, pow-suc 2 k, digit-short k (a / 2) (λ e l. h (suc e) (omega arith)))
+
 -- what is flipped twice is as it was
 pub xor-back : (k a b : ℕ) → a < 2 ^ k → b < 2 ^ k → bitXor (bitXor a b) b ≡ a
 xor-back k a b p q =

@@ -1,6 +1,6 @@
 -- Laws of folds, joined lists and tests over the numbers below a bound. Assumes nothing.
 use mathlib.Core.Path.{_≡_, refl, sym, ap, ap₂, _∙_, subst}
-use mathlib.Core.Bool.{Bool, true, false, _&&_, _||_, Bool·beq, or-assoc, or-false}
+use mathlib.Core.Bool.{Bool, true, false, _&&_, _||_, Bool·beq, or-assoc, or-false, false≢true}
 use mathlib.Core.Logic.{_⊎_, inl, inr, ⊎-elim}
 use mathlib.Core.List.{List, [], _∷_, _++_, map, append-nil, append-assoc}
 use Prim.Native.Nat.{ℕ, zero, suc, _+_, _*_, _≤_, _<_, pred}
@@ -11,7 +11,7 @@ use lib.Dec.{T, eqb, eqb→eq}
 use lib.ListN.{length, length-append}
 use Rattle.laws.specs.Ranges.{fold, each, any, all}
 use Rattle.laws.specs.Lists.{joined}
-use Rattle.laws.proofs.Bools.{and-left, and-right, beq→eq}
+use Rattle.laws.proofs.Bools.{and-left, and-right, beq→eq, or-apart}
 
 -- ---- cases on two numbers
 
@@ -105,6 +105,18 @@ module _ {A : Type 0} where
   each-add m zero f = rw (add-zero, append-nil)
   each-add m (suc n) f = rw (add-suc, each-add m n f, append-assoc)
 
+  -- the first list, and those after it
+  pub each-first : (n : ℕ) (f : ℕ → List A) → each (suc n) f ≡ f 0 ++ each n (λ i. f (suc i))
+  unfolding each
+  each-first zero f = sym (append-nil (f 0))
+  each-first (suc n) f = rw (each-first n f, append-assoc)
+
+  -- the lists before l, the list of l, and those after it
+  pub each-split : (l r : ℕ) (f : ℕ → List A) → each (l + suc r) f ≡ each l f ++ (f l ++ each r (λ i. f (l + suc i)))
+  each-split l r f =
+      each-add l (suc r) f
+      ∙ ap (λ (x : List A). each l f ++ x) (each-first r (λ i. f (l + i)) ∙ ap (λ (j : ℕ). f j ++ each r (λ i. f (l + suc i))) (add-zero l))
+
   -- m rows of n, one after the other, are the numbers below m * n
   pub each-rows : (m n : ℕ) (f : ℕ → List A) → each (m * n) f ≡ each m (λ j. each n (λ i. f (j * n + i)))
   unfolding each
@@ -145,6 +157,18 @@ any-some (suc n) p k h e =
     last : (b : Bool) → b || true ≡ true
     last true = refl
     last false = refl
+
+-- the loop's turn: one number more
+pub any-more : (k : ℕ) (p : ℕ → Bool) → any (k + 1) p ≡ any k p || p k
+unfolding any
+any-more k p = rw add-one
+
+-- where the test passes at some number, there is one
+pub any-one : (n : ℕ) (p : ℕ → Bool) → any n p ≡ true → (k : ℕ) × (k < n) × (p k ≡ true)
+unfolding any
+any-one zero p e = absurd (false≢true e)
+any-one (suc n) p e =
+    ⊎-elim (λ l. let r = any-one n p l in (r .0, omega (arith, r .1), r .2)) (λ l. (n, omega arith, l)) (or-apart (any n p) (p n) e)
 
 -- none does where none does
 pub any-none : (n : ℕ) (p : ℕ → Bool) → ((k : ℕ) → k < n → p k ≡ false) → any n p ≡ false

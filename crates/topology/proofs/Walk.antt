@@ -13,7 +13,7 @@ use Rattle.laws.proofs.Ranges.{eq-or}
 use Rattle.laws.proofs.Digits.{digit-lt, digit-and, digit-or, digit-xor, digit-zero, digit-pow-same, digit-pow-other, digit-below, digit-or-not, low-set, low-lt, and-neg, ones-le, ones-sum, ones-sum3, ones-zero, ones-pow, ones-pos}
 use Rattle.tables.specs.Edges.{areNeighbours, neighbourMask}
 use Rattle.tables.proofs.Edges.{neighbour-rule, neighbour-lt}
-use Rattle.topology.specs.Components.{low, Path, here, next}
+use Rattle.topology.specs.Parts.{low, Path, here, next}
 use Rattle.topology.specs.Walk.{lowBit, found, remTurn, frTurn, compTurn, Walked, walk, first}
 
 -- ---- x & -x is the lowest edge

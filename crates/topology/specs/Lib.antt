@@ -1,3 +1,5 @@
 -- The topology test: the components of a mask, flat holes, the six cases and their clusters, and document 01's examples.
-pub mod Components
+pub mod Parts
 pub mod Walk
+pub mod Flat
+pub mod Topology

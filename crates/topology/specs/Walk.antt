@@ -1,4 +1,4 @@
--- The walk over a mask, turn by turn, and the list of what it finds; `Parts` of Components says what that list is. Assumes nothing.
+-- The walk over a mask, turn by turn, and the list of what it finds; `Parts` says what that list is. Assumes nothing.
 use mathlib.Core.List.{List, [], _∷_}
 use Prim.Native.Nat.{ℕ, zero, suc, _^_}
 use lib.Bits.{bitAnd, bitOr, bitXor}
@@ -6,7 +6,7 @@ use lib.ListN.{length}
 use Rattle.laws.specs.Filling.{padded}
 use Rattle.tables.specs.Edges.{neighbourMask}
 use Rattle.topology.specs.declared.Components.{Components}
-use Rattle.topology.specs.Components.{low}
+use Rattle.topology.specs.Parts.{low}
 
 -- the fourteen edges of a mask: its other bits count for nothing
 abbrev pub fourteen : ℕ → ℕ
