@@ -8,10 +8,12 @@ use native.Mathlib.Nat.{add-zero, add-suc, zero-mul, suc-mul, le-antisymm, not-s
 use native.Mathlib.Numerals.{add-one}
 use native.Mathlib.Omega.{arith}
 use lib.Dec.{T, eqb, eqb→eq}
-use lib.ListN.{length, length-append}
+use lib.ListN.{length, getD, length-append, List·getD-append}
+use lib.Seq.{getD-append-add}
 use Rattle.laws.specs.Ranges.{fold, each, any, all}
-use Rattle.laws.specs.Lists.{joined}
+use Rattle.laws.specs.Lists.{joined, All}
 use Rattle.laws.proofs.Bools.{and-left, and-right, beq→eq, or-apart}
+use Rattle.laws.proofs.Lists.{all-append}
 
 -- ---- cases on two numbers
 
@@ -117,6 +119,28 @@ module _ {A : Type 0} where
       each-add l (suc r) f
       ∙ ap (λ (x : List A). each l f ++ x) (each-first r (λ i. f (l + i)) ∙ ap (λ (j : ℕ). f j ++ each r (λ i. f (l + suc i))) (add-zero l))
 
+  -- an entry of one of the lists is an entry of the joined list
+  pub each-entry : (d : A) (n : ℕ) (f : ℕ → List A) (k j : ℕ) → k < n → j < length (f k)
+      → (i : ℕ) × (i < length (each n f)) × (getD (each n f) i d ≡ getD (f k) j d)
+  unfolding each
+  each-entry d zero f k j h l = absurd (not-suc-le-zero h)
+  each-entry d (suc n) f k j h l =
+      ⊎-elim
+      (λ b.
+      let r = each-entry d n f k j b l in
+      (r .0, omega (arith, r .1, length-append (each n f) (f n)), List·getD-append (each n f) (f n) d (r .0) (r .1) ∙ r .2))
+      (λ b.
+      let e : k ≡ n = omega arith in
+      let l′ : j < length (f n) = subst (λ (x : ℕ). j < length (f x)) e l in
+      (length (each n f) + j, omega (arith, length-append (each n f) (f n)),
+        getD-append-add (each n f) (f n) j d ∙ ap (λ (x : ℕ). getD (f x) j d) (sym e))) (lt-or k n)
+
+  -- what holds of every member of each of the lists holds of every member of the joined list
+  pub each-all : (P : A → Type 0) (n : ℕ) (f : ℕ → List A) → ((i : ℕ) → i < n → All P (f i)) → All P (each n f)
+  unfolding each All
+  each-all P zero f h = tt
+  each-all P (suc n) f h = all-append P (each n f) (f n) (each-all P n f (λ i l. h i (omega arith))) (h n (omega arith))
+
   -- m rows of n, one after the other, are the numbers below m * n
   pub each-rows : (m n : ℕ) (f : ℕ → List A) → each (m * n) f ≡ each m (λ j. each n (λ i. f (j * n + i)))
   unfolding each
@@ -162,6 +186,11 @@ any-some (suc n) p k h e =
 pub any-more : (k : ℕ) (p : ℕ → Bool) → any (k + 1) p ≡ any k p || p k
 unfolding any
 any-more k p = rw add-one
+
+pub any-same : (n : ℕ) (p q : ℕ → Bool) → ((k : ℕ) → k < n → p k ≡ q k) → any n p ≡ any n q
+unfolding any
+any-same zero p q h = refl
+any-same (suc n) p q h = ap₂ (λ (x y : Bool). x || y) (any-same n p q (λ k l. h k (omega arith))) (h n (omega arith))
 
 -- where the test passes at some number, there is one
 pub any-one : (n : ℕ) (p : ℕ → Bool) → any n p ≡ true → (k : ℕ) × (k < n) × (p k ≡ true)

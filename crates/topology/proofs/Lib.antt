@@ -5,3 +5,4 @@ pub mod Parts
 pub mod Rows
 pub mod Singles
 pub mod Cases
+pub mod Answers

@@ -3,3 +3,4 @@ pub mod Parts
 pub mod Walk
 pub mod Flat
 pub mod Topology
+pub mod Examples

@@ -33,3 +33,9 @@ pub record Parts (m : ℕ) (cs : List ℕ) : Type 0 where
   pub cover : (e : ℕ) → total (λ c. digit c e) cs ≡ digit m e
   pub each : All (Component m) cs
   pub order : Ascending cs
+
+-- cs are parts of m, in order: an edge of m is in just one of them, they have no other edges, and none is empty
+pub record Partition (m : ℕ) (cs : List ℕ) : Type 0 where
+  pub cover : (e : ℕ) → total (λ c. digit c e) cs ≡ digit m e
+  pub some : All (λ c. 0 < c) cs
+  pub order : Ascending cs

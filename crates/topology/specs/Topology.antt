@@ -1,5 +1,5 @@
 -- The six cases of the paper, and which of a site's near intersections share a vertex. Assumes nothing.
-use mathlib.Core.Bool.{Bool, true, false, cond}
+use mathlib.Core.Bool.{Bool, true, false, _&&_, cond}
 use mathlib.Core.List.{List, [], _∷_}
 use Prim.Native.Nat.{ℕ, _-_, _^_}
 use lib.Dec.{eqb, ltb}
@@ -76,6 +76,17 @@ caseOf near cluster ends h = caseBy (kindOf (fourteen near)) cluster (isFlat (fo
 
 unfoldable pub topologyOf : ℕ → Bool → List Sample → Float → TopologyResult
 topologyOf near cluster ends h = result (caseOf near cluster ends h) (clustersIn (caseOf near cluster ends h) (fourteen near))
+
+-- whether the samples at the ends are asked for: only where one surface with one hole is to be clustered
+abbrev pub isSingle : Kind → Bool
+isSingle empty = false
+isSingle closed = false
+isSingle surfaces = false
+isSingle holes = false
+isSingle single = true
+
+unfoldable pub asksEnds : ℕ → Bool → Bool
+asksEnds near cluster = cluster && isSingle (kindOf (fourteen near))
 
 -- document 01's number of a case; a site that is not clustered has the next
 unfoldable pub caseNumber : TopologyCase → ℕ
