@@ -6,3 +6,4 @@ pub mod Rows
 pub mod Singles
 pub mod Cases
 pub mod Answers
+pub mod FlatMeaning
