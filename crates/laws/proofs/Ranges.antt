@@ -131,9 +131,11 @@ module _ {A : Type 0} where
       (r .0, omega (arith, r .1, length-append (each n f) (f n)), List·getD-append (each n f) (f n) d (r .0) (r .1) ∙ r .2))
       (λ b.
       let e : k ≡ n = omega arith in
-      let l′ : j < length (f n) = subst (λ (x : ℕ). j < length (f x)) e l in
-      (length (each n f) + j, omega (arith, length-append (each n f) (f n)),
-        getD-append-add (each n f) (f n) j d ∙ ap (λ (x : ℕ). getD (f x) j d) (sym e))) (lt-or k n)
+      let l′ : j < length (f n) = subst (λ (x : ℕ). j < length (f x)) e l in (
+        length (each n f) + j,
+        omega (arith, length-append (each n f) (f n)),
+        getD-append-add (each n f) (f n) j d ∙ ap (λ (x : ℕ). getD (f x) j d) (sym e),
+      )) (lt-or k n)
 
   -- what holds of every member of each of the lists holds of every member of the joined list
   pub each-all : (P : A → Type 0) (n : ℕ) (f : ℕ → List A) → ((i : ℕ) → i < n → All P (f i)) → All P (each n f)

@@ -158,8 +158,11 @@ head-low m c cs h k =
     let lc : digit c (low c) ≡ 1 = low-in c (k .each .0 .some) short in
     let p : 0 < m = some-pos m (low c) (sub (low c) lc) in
     let has : digit c (low m) ≡ 1 =
-    ⊎-elim (λ z. absurd (omega (arith, low-le m (low c) (sub (low c) lc),
-      member cs (low m) (low c) (omega (arith, k .cover (low m), low-in m p h)) (k .order .0)))) (λ o. o) (digit-or-not c (low m)) in
+    ⊎-elim (λ z. absurd (omega (
+      arith,
+      low-le m (low c) (sub (low c) lc),
+      member cs (low m) (low c) (omega (arith, k .cover (low m), low-in m p h)) (k .order .0),
+    ))) (λ o. o) (digit-or-not c (low m)) in
     (low-part m c short sub has, has, sub, short, p)
 
 -- of two first components, one is a part of the other
@@ -196,7 +199,7 @@ parts-unique m (c ∷ cs) (d ∷ ds) h p q =
     let cd : In d c = head-in m c d (l .2) (l .0) (r .1) (p .each .0) (q .each .0) in
     let dc : In c d = head-in m d c (r .2) (r .0) (l .1) (q .each .0) (p .each .0) in
     let e : d ≡ c = digit-ext 14 d c (r .3) (l .3) (λ f b. ⊎-elim
-      (λ z. ⊎-elim (λ y. omega arith) (λ y. omega (arith, cd f y)) (digit-or-not c f)) (λ o. omega (arith, dc f o)) (digit-or-not d f)) in
+    (λ z. ⊎-elim (λ y. omega arith) (λ y. omega (arith, cd f y)) (digit-or-not c f)) (λ o. omega (arith, dc f o)) (digit-or-not d f)) in
     ap₂ (λ (x : ℕ) (xs : List ℕ). x ∷ xs) (sym e)
     (parts-unique (bitXor m c) cs ds (xor-lt 14 m c h (l .3)) (tail-parts m c cs p)
     (subst (λ (x : ℕ). Parts (bitXor m x) ds) e (tail-parts m d ds q)))

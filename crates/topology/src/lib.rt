@@ -4,9 +4,9 @@ ghost use Rattle.topology.specs.Walk.{lowBit, componentsOf};
 ghost use Rattle.topology.specs.Flat.{twoEdges, collapses, isFlat};
 ghost use Rattle.topology.specs.Topology.{singles, clustersOf, topologyOf, caseNumber};
 ghost use mathlib.Core.List.{[], _∷_};
+use sides::Sample;
 use tables::ALL14_MASK;
 use tables::FLAT_HOLES;
-use sides::Sample;
 
 pub enum TopologyCase {
     ClosedSurface,
