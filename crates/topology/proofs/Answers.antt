@@ -1,6 +1,6 @@
 -- What the answers of the topology test are: the clusters are a partition of the mask, at most fourteen; what they depend on; and there is one answer. Assumes nothing.
 use mathlib.Core.Path.{_≡_, refl, sym, ap, ap₂, _∙_, subst}
-use mathlib.Core.Bool.{Bool, true, false, _&&_, _||_}
+use mathlib.Core.Bool.{Bool, true, false, _&&_}
 use mathlib.Core.Logic.{⊎-elim}
 use mathlib.Core.List.{List, [], _∷_, _++_}
 use Prim.Native.Nat.{ℕ, zero, suc, _+_, _^_, _<_, _≤_}
@@ -8,16 +8,15 @@ use native.Mathlib.Nat.{add-suc, suc-add, add-zero, zero-add}
 use native.Mathlib.Omega.{arith}
 use lib.ListN.{length, getD}
 use lib.Ieee.{Float}
-use lib.Pow.{pow-lt}
 use Rattle.laws.specs.Lists.{All, total}
-use Rattle.laws.specs.Ranges.{each, any}
+use Rattle.laws.specs.Ranges.{each}
 use Rattle.laws.specs.Digits.{digit}
 use Rattle.laws.proofs.Lists.{all-map, total-append}
 use Rattle.laws.proofs.Ranges.{lt-or, eq-or, each-first, each-same, each-all, any-same}
 use Rattle.laws.proofs.Digits.{digit-or-not, digit-pow-same, digit-pow-other, digit-high, low-pow}
 use Rattle.tables.specs.FlatHoles.{flatHole}
 use Rattle.sides.specs.declared.Sample.{Sample}
-use Rattle.sides.specs.declared.Sample.the-variants.{Missing, Value}
+use Rattle.sides.specs.declared.Sample.the-variants.{Missing}
 use Rattle.topology.specs.declared.Components.{Components}
 use Rattle.topology.specs.declared.TopologyCase.{TopologyCase}
 use Rattle.topology.specs.declared.TopologyCase.the-variants.{ClosedSurface, MultiHole, FlatHole, MultiSurface, SimpleSurface, DoNotCluster}

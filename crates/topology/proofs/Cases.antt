@@ -2,15 +2,14 @@
 use mathlib.Core.Path.{_≡_, refl, sym, ap, ap₂, _∙_, subst}
 use mathlib.Core.Bool.{Bool, true, false, not, cond}
 use mathlib.Core.List.{List, [], _∷_}
-use Prim.Native.Nat.{ℕ, zero, suc, _+_, _^_, _%_, _<_, _≤_}
+use Prim.Native.Nat.{ℕ, zero, suc, _^_, _<_, _≤_}
 use native.Mathlib.Omega.{arith}
 use lib.Dec.{eqb, ltb}
 use lib.ListN.{length}
 use lib.Ieee.{Float}
-use lib.Bits.{bitAnd, and-mask, mask-lt}
+use lib.Bits.{and-mask, mask-lt}
 use borrow.Author.Tests.{eq-eqb, ne-eqb, lt-ltb, le-ltb}
-use Rattle.laws.specs.Lists.{total, All}
-use Rattle.laws.specs.Digits.{digit}
+use Rattle.laws.specs.Lists.{total}
 use Rattle.laws.proofs.Digits.{digit-ext, digit-lt}
 use Rattle.sides.specs.declared.Sample.{Sample}
 use Rattle.topology.specs.declared.TopologyCase.the-variants.{ClosedSurface, MultiHole, FlatHole, MultiSurface, SimpleSurface, DoNotCluster}

@@ -1,9 +1,9 @@
 -- A mask is flat by the rows of the table exactly where the surface collapses in the paper's words (`flat-collapse`, `collapse-flat`). Assumes nothing.
-use mathlib.Core.Path.{_≡_, refl, sym, ap, ap₂, _∙_, subst}
+use mathlib.Core.Path.{_≡_, refl, ap, ap₂, _∙_, subst}
 use mathlib.Core.Bool.{Bool, true, false, _&&_, _||_, cond, false≢true}
 use mathlib.Core.Logic.{⊎-elim}
 use mathlib.Core.List.{List, [], _∷_}
-use Prim.Native.Nat.{ℕ, zero, suc, _+_, _^_, _<_, _≤_, min}
+use Prim.Native.Nat.{ℕ, _+_, _^_, _<_}
 use native.Mathlib.Omega.{arith}
 use lib.Dec.{T, eqb, eqb→eq, ltb, ltb→lt}
 use lib.ListN.{length, getD}
@@ -12,8 +12,8 @@ use lib.Bits.{bitAnd, and-le-r}
 use lib.Count.{trailingZeros}
 use borrow.Author.Tests.{ne-eqb, lt-ltb, ltb-true, eqb-true}
 use Rattle.laws.specs.Bools.{bit}
-use Rattle.laws.specs.Ranges.{each, all, any}
-use Rattle.laws.specs.Digits.{digit, mask}
+use Rattle.laws.specs.Ranges.{each, all}
+use Rattle.laws.specs.Digits.{digit}
 use Rattle.laws.proofs.Bools.{and-left, and-right, and-yes, and-apart, T-true}
 use Rattle.laws.proofs.Ranges.{eq-or, all-at, all-at2, any-one, any-some, each-entry}
 use Rattle.laws.proofs.Digits.{digit-lt, digit-and, digit-zero, digit-ext, mask-lt}
@@ -23,7 +23,6 @@ use Rattle.tables.specs.FlatHoles.{holeOf, flatHoles, flatHole}
 use Rattle.tables.proofs.FlatHoles.{flat-36}
 use Rattle.sides.specs.declared.Sample.{Sample}
 use Rattle.sides.specs.declared.Sample.the-variants.{Missing, Value}
-use Rattle.topology.specs.declared.TwoEdges.{TwoEdges}
 use Rattle.topology.specs.Walk.{lowBit}
 use Rattle.topology.specs.Flat.{twoEdges, collapses, collapsesAt, pairsCollapse, rowFlat, isFlat, Collapse}
 use Rattle.topology.proofs.Rows.{off, on, off-second, on-second, by-four}

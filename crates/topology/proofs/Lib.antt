@@ -5,5 +5,6 @@ pub mod Parts
 pub mod Rows
 pub mod Singles
 pub mod Cases
+pub mod Others
 pub mod Answers
 pub mod FlatMeaning

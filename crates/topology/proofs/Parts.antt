@@ -1,16 +1,14 @@
 -- The walks find the components of a mask (`components-parts`), and there is no other list of them (`parts-unique`). Assumes nothing.
 use mathlib.Core.Path.{_≡_, refl, sym, ap, ap₂, _∙_, subst}
-use mathlib.Core.Logic.{_⊎_, inl, inr, ⊎-elim}
+use mathlib.Core.Logic.{⊎-elim}
 use mathlib.Core.List.{List, [], _∷_}
 use Prim.Native.Nat.{ℕ, zero, suc, _+_, _-_, _^_, _<_, _≤_}
 use native.Mathlib.Omega.{arith}
 use lib.Dec.{T}
 use lib.Bits.{bitXor, xor-lt, mask-lt}
 use lib.Count.{onesIn}
-use lib.ListN.{length}
 use Rattle.laws.specs.Lists.{All, total}
 use Rattle.laws.specs.Digits.{digit}
-use Rattle.laws.proofs.Bools.{bit-T, T-bit}
 use Rattle.laws.proofs.Lists.{all-map}
 use Rattle.laws.proofs.Ranges.{lt-or, eq-or}
 use Rattle.laws.proofs.Digits.{digit-lt, digit-xor, digit-zero, digit-below, digit-or-not, digit-ext, digit-short, low-least, ones-le}
@@ -18,7 +16,7 @@ use Rattle.tables.specs.Edges.{areNeighbours}
 use Rattle.tables.proofs.Edges.{neighbours-sym}
 use Rattle.topology.specs.Parts.{low, Path, here, next, Component, Ascending, Parts}
 use Rattle.topology.specs.Walk.{fourteen, first, componentsIn, components}
-use Rattle.topology.proofs.Walk.{Walking, low-in, low-14, ones-some, first-end, rest-less}
+use Rattle.topology.proofs.Walk.{Walking, low-in, ones-some, first-end, rest-less}
 
 -- ---- lowest edges
 

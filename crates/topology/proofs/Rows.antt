@@ -1,10 +1,10 @@
 -- The rows of the flat-hole table: their edges, the loop over them, and one row by the tests on the way. Assumes nothing.
 use mathlib.Core.Path.{_≡_, refl, sym, ap, ap₂, _∙_}
-use mathlib.Core.Bool.{Bool, true, false, _&&_, _||_}
+use mathlib.Core.Bool.{Bool, true, false, _||_}
 use mathlib.Core.List.{List}
-use Prim.Native.Nat.{ℕ, _+_, _^_, _<_, _≤_}
+use Prim.Native.Nat.{ℕ, _+_, _<_, _≤_}
 use native.Mathlib.Omega.{arith}
-use lib.Dec.{T, eqb, ltb, ltb→lt}
+use lib.Dec.{ltb, ltb→lt}
 use lib.ListN.{getD}
 use lib.Ieee.{Float}
 use lib.Bits.{bitAnd}
@@ -12,12 +12,12 @@ use lib.Count.{trailingZeros}
 use borrow.Author.Tests.{eq-eqb, ne-eqb}
 use Rattle.laws.specs.Bools.{bit}
 use Rattle.laws.specs.Ranges.{all, any}
-use Rattle.laws.proofs.Ranges.{all-at, same-at, any-more, any-some}
+use Rattle.laws.proofs.Ranges.{all-at, any-more, any-some}
 use Rattle.tables.specs.declared.FlatHole.{FlatHole}
 use Rattle.tables.specs.Edges.{areNeighbours}
 use Rattle.tables.specs.FlatHoles.{holeOf, flatHoles, flatHole}
 use Rattle.sides.specs.declared.Sample.{Sample}
-use Rattle.sides.specs.declared.Sample.the-variants.{Missing, Value}
+use Rattle.sides.specs.declared.Sample.the-variants.{Missing}
 use Rattle.topology.specs.declared.TwoEdges.{TwoEdges}
 use Rattle.topology.specs.Walk.{lowBit}
 use Rattle.topology.specs.Flat.{twoEdges, collapsesAt, pairsCollapse, rowFlat, isFlat}

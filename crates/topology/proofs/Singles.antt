@@ -1,9 +1,9 @@
 -- The edges of a mask one by one: the loop of `do_not_cluster`, and what the list of them says of the mask. Assumes nothing.
-use mathlib.Core.Path.{_≡_, refl, sym, ap, ap₂, _∙_, subst}
+use mathlib.Core.Path.{_≡_, sym, ap, ap₂, _∙_, subst}
 use mathlib.Core.Bool.{Bool, true, false, cond}
 use mathlib.Core.Logic.{⊎-elim}
 use mathlib.Core.List.{List, [], _∷_, _++_}
-use Prim.Native.Nat.{ℕ, zero, suc, _+_, _-_, _*_, _%_, _^_, _<_, _≤_}
+use Prim.Native.Nat.{ℕ, suc, _+_, _-_, _*_, _%_, _^_, _<_, _≤_}
 use native.Mathlib.Omega.{arith}
 use lib.ListN.{length, set, replicate}
 use lib.Bits.{bitXor, xor-lt, mask-lt}
@@ -15,7 +15,6 @@ use Rattle.laws.specs.Digits.{digit, isSet}
 use Rattle.laws.proofs.Ranges.{eq-or, each-same, each-nil, each-split, each-le}
 use Rattle.laws.proofs.Filling.{fill-start, fill-room, fill-turn, fill-end}
 use Rattle.laws.proofs.Digits.{digit-lt, digit-and, digit-xor, digit-zero, digit-pow-same, digit-pow-other, digit-set, digit-unset, digit-or-not, digit-all, low-least, ones-sum, ones-pow}
-use Rattle.topology.specs.declared.Clusters.{Clusters}
 use Rattle.topology.specs.Parts.{low}
 use Rattle.topology.specs.Walk.{fourteen}
 use Rattle.topology.specs.Topology.{singles, clustersOf}

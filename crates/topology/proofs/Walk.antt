@@ -14,7 +14,7 @@ use Rattle.laws.proofs.Digits.{digit-lt, digit-and, digit-or, digit-xor, digit-
 use Rattle.tables.specs.Edges.{areNeighbours, neighbourMask}
 use Rattle.tables.proofs.Edges.{neighbour-rule, neighbour-lt}
 use Rattle.topology.specs.Parts.{low, Path, here, next}
-use Rattle.topology.specs.Walk.{lowBit, found, remTurn, frTurn, compTurn, Walked, walk, first}
+use Rattle.topology.specs.Walk.{lowBit, found, remTurn, frTurn, compTurn, walk, first}
 
 -- ---- x & -x is the lowest edge
 

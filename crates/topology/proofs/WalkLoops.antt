@@ -7,11 +7,10 @@ use lib.ListN.{length, replicate, set}
 use lib.Bits.{bitAnd, bitOr, bitXor, mask-lt}
 use lib.Count.{trailingZeros, onesIn}
 use lib.Pow.{pow-lt}
-use Rattle.laws.specs.Filling.{padded, Filling}
+use Rattle.laws.specs.Filling.{Filling}
 use Rattle.laws.proofs.Filling.{fill-start, fill-room, fill-turn, fill-end}
 use Rattle.laws.proofs.Digits.{xor-back, ones-le, low-pow}
 use Rattle.tables.specs.Edges.{neighbourMask}
-use Rattle.topology.specs.declared.Components.{Components}
 use Rattle.topology.specs.Parts.{low}
 use Rattle.topology.specs.Walk.{fourteen, lowBit, found, remTurn, frTurn, compTurn, Walked, walk, first, componentsIn, components, componentsOf}
 use Rattle.topology.proofs.Walk.{lowBit-pos, low-14, Walking, walking-start, walking-turn, ones-turn, ones-some, ones-more, walk-stop, walk-turn, first-end, rest-less}

@@ -1,11 +1,11 @@
 -- `topology::connected_components_masks` meets its contract. Assumes nothing.
 use borrow.Author.Needs.{needs}
 use mathlib.Core.Path.{_≡_}
-use Prim.Native.Nat.{ℕ, _-_, _<_}
+use Prim.Native.Nat.{_-_, _<_}
 use native.Mathlib.Omega.{arith}
 use lib.Bits.{bitXor}
 use lib.Count.{trailingZeros, onesIn}
-use Rattle.topology.specs.Walk.{Walked, first}
+use Rattle.topology.specs.Walk.{first}
 use Rattle.topology.proofs.WalkLoops.{Inner, Outer, zeros-lt, inner-start, inner-turn, inner-less, inner-end, outer-start, outer-room, outer-turn, outer-less, outer-end}
 use Rattle.topology.proofs.connected_components_masks.Statement.{statement}
 use Rattle.topology.proofs.connected_components_masks.Tie as tie

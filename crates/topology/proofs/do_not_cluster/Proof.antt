@@ -1,6 +1,6 @@
 -- `topology::do_not_cluster` meets its contract. Assumes nothing.
 use mathlib.Core.Path.{_≡_}
-use Prim.Native.Nat.{ℕ, _*_, _^_, _<_, _%_}
+use Prim.Native.Nat.{_*_, _^_, _<_, _%_}
 use native.Mathlib.Omega.{arith}
 use lib.Count.{onesIn}
 use Rattle.topology.specs.Parts.{low}

@@ -1,6 +1,6 @@
 -- `topology::test_topology` meets its contract: at each return, the tests on the way decide the case. Assumes nothing.
-use mathlib.Core.Path.{_≡_, sym, ap, _∙_, subst}
-use Prim.Native.Nat.{ℕ, _<_, _≤_}
+use mathlib.Core.Path.{sym, ap, _∙_, subst}
+use Prim.Native.Nat.{_<_, _≤_}
 use lib.ListN.{length}
 use borrow.Author.Needs.{needs}
 use Rattle.topology.specs.declared.Clusters.{Clusters}
