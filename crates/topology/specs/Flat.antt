@@ -50,7 +50,8 @@ rowFlat m ends h r =
 unfoldable pub isFlat : ℕ → List Sample → Float → Bool
 isFlat m ends h = any 36 (λ i. rowFlat m ends h (flatHole i))
 
--- The same without the table: A and B are neighbours, and C and D are the two neighbours that they have in common.
+-- The same without the table (`flat-collapse` and `collapse-flat` of proofs/FlatMeaning): A and B are neighbours, and C and D are
+-- the two neighbours that they have in common.
 pub record Collapse (m : ℕ) (ends : List Sample) (h : Float) : Type 0 where
   pub a : ℕ
   pub b : ℕ

@@ -28,7 +28,8 @@ unfoldable pub Ascending : List ℕ → Type 0
 Ascending [] = Unit {0}
 Ascending (c ∷ cs) = All (λ d. low c < low d) cs × Ascending cs
 
--- cs are the components of m, in order: an edge of m is in just one of them, and they have no other edges
+-- cs are the components of m, in order: an edge of m is in just one of them, and they have no other edges. There is just one such
+-- list (`parts-unique` of proofs/Parts).
 pub record Parts (m : ℕ) (cs : List ℕ) : Type 0 where
   pub cover : (e : ℕ) → total (λ c. digit c e) cs ≡ digit m e
   pub each : All (Component m) cs

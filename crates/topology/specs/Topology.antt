@@ -17,7 +17,7 @@ use Rattle.topology.specs.declared.TopologyResult.{TopologyResult}
 use Rattle.topology.specs.Walk.{fourteen, components}
 use Rattle.topology.specs.Flat.{isFlat}
 
--- the edges without a near intersection
+-- the edges without a near intersection: the others of the fourteen (`others-digit` of proofs/Others)
 abbrev pub others : ℕ → ℕ
 others m = bitAnd 0x3FFF (0xFFFF - m)
 
@@ -70,7 +70,8 @@ clustersOf cs = record { count = length cs; masks = padded 14 0 cs }
 abbrev pub result : TopologyCase → List ℕ → TopologyResult
 result c cs = record { case = c; clusters = clustersOf cs }
 
--- of a mask of near intersections, whether to cluster, the samples at the fourteen ends and the threshold
+-- The answer, of a mask of near intersections, whether to cluster, the samples at the fourteen ends and the threshold.
+-- Its clusters are a partition of the mask (`clusters-partition` of proofs/Answers).
 unfoldable pub caseOf : ℕ → Bool → List Sample → Float → TopologyCase
 caseOf near cluster ends h = caseBy (kindOf (fourteen near)) cluster (isFlat (fourteen near) ends h)
 

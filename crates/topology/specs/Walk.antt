@@ -50,6 +50,7 @@ componentsIn zero m = []
 componentsIn (suc n) zero = []
 componentsIn (suc n) (suc m) = first (suc m) .comp ∷ componentsIn n (first (suc m) .rest)
 
+-- the components of a mask's fourteen edges (`components-parts` of proofs/Parts)
 unfoldable pub components : ℕ → List ℕ
 components m = componentsIn 14 (fourteen m)
 
