@@ -8,7 +8,7 @@ use native.Mathlib.Nat.{pow-suc, not-suc-le-zero}
 use native.Mathlib.Omega.{arith}
 use borrow.Author.Tests.{eq-eqb, ne-eqb}
 use lib.Dec.{eqb}
-use lib.Bits.{bitAnd, bitOr, bitXor, and-step, or-step, xor-step, differ}
+use lib.Bits.{bitAnd, bitOr, bitXor, and-step, or-step, xor-step, differ, xor-lt}
 use lib.Count.{trailingZeros, under, ones, onesIn, ones-step}
 use Rattle.laws.specs.Bools.{bit}
 use Rattle.laws.specs.Digits.{digit, isSet, mask}
@@ -125,6 +125,36 @@ digit-ext (suc k) a b p q h =
     let t : a / 2 ≡ b / 2 = digit-ext k (a / 2) (b / 2) (half-lt k a p) (half-lt k b q) (λ e l. h (suc e) (omega arith)) in
     let o : a % 2 ≡ b % 2 = h 0 (omega arith) in
     omega arith
+
+pow-pos : (k : ℕ) → 0 < 2 ^ k
+pow-pos zero = omega arith
+pow-pos (suc k) = omega (arith, pow-suc 2 k, pow-pos k)
+
+below-pow : (a : ℕ) → a < 2 ^ a
+below-pow zero = omega arith
+below-pow (suc a) = omega (arith, pow-suc 2 a, below-pow a)
+
+-- a mask of k ones
+pub digit-all : (k e : ℕ) → e < k → digit (2 ^ k - 1) e ≡ 1
+unfolding digit
+digit-all zero e h = absurd (not-suc-le-zero h)
+digit-all (suc k) zero h = omega (arith, pow-suc 2 k, pow-pos k)
+digit-all (suc k) (suc e) h = ap (λ (x : ℕ). digit x e) (half-ones k) ∙ digit-all k e (omega arith)
+  where
+    half-ones : (k : ℕ) → (2 ^ suc k - 1) / 2 ≡ 2 ^ k - 1
+    half-ones k = omega (arith, pow-suc 2 k, pow-pos k)
+
+-- a mask without a digit at or above k is one of k digits
+pub digit-short : (k a : ℕ) → ((e : ℕ) → k ≤ e → digit a e ≡ 0) → a < 2 ^ k
+unfolding digit
+digit-short zero a h = let z : a ≡ 0 = digit-ext a a 0 (below-pow a) (omega (arith, below-pow a)) (λ e l. h e (omega arith) ∙ sym (digit-zero e)) in omega arith
+digit-short (suc k) a h = omega (arith, pow-suc 2 k, digit-short k (a / 2) (λ e l. h (suc e) (omega arith)))
+
+-- what is flipped twice is as it was
+pub xor-back : (k a b : ℕ) → a < 2 ^ k → b < 2 ^ k → bitXor (bitXor a b) b ≡ a
+xor-back k a b p q =
+    digit-ext k (bitXor (bitXor a b) b) a (xor-lt k (bitXor a b) b (xor-lt k a b p q) q) p
+    (λ e l. digit-xor (bitXor a b) b e ∙ omega (arith, digit-xor a b e, digit-lt a e, digit-lt b e))
 
 -- a mask and the rest of k digits: at each place one of the two is set
 pub digit-compl : (k m r e : ℕ) → suc (m + r) ≡ 2 ^ k → e < k → digit m e + digit r e ≡ 1

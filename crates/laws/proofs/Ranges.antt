@@ -9,10 +9,11 @@ use native.Mathlib.Numerals.{add-one}
 use native.Mathlib.Omega.{arith}
 use lib.Dec.{T, eqb, eqb→eq}
 use lib.ListN.{length, getD, length-append, List·getD-append}
-use lib.Seq.{getD-at}
+use lib.Seq.{getD-at, getD-append-add}
 use Rattle.laws.specs.Ranges.{fold, each, any, all}
-use Rattle.laws.specs.Lists.{joined}
+use Rattle.laws.specs.Lists.{All}
 use Rattle.laws.proofs.Bools.{and-left, and-right, or-apart, beq→eq}
+use Rattle.laws.proofs.Lists.{all-append}
 
 -- ---- cases on two numbers
 
@@ -135,6 +136,42 @@ module _ {A : Type 0} where
   each-add m zero f = rw (add-zero, append-nil)
   each-add m (suc n) f = rw (add-suc, each-add m n f, append-assoc)
 
+  -- the first list, and those after it
+  pub each-first : (n : ℕ) (f : ℕ → List A) → each (suc n) f ≡ f 0 ++ each n (λ i. f (suc i))
+  unfolding each
+  each-first zero f = sym (append-nil (f 0))
+  each-first (suc n) f = rw (each-first n f, append-assoc)
+
+  -- the lists before l, the list of l, and those after it
+  pub each-split : (l r : ℕ) (f : ℕ → List A) → each (l + suc r) f ≡ each l f ++ (f l ++ each r (λ i. f (l + suc i)))
+  each-split l r f =
+      each-add l (suc r) f
+      ∙ ap (λ (x : List A). each l f ++ x) (each-first r (λ i. f (l + i)) ∙ ap (λ (j : ℕ). f j ++ each r (λ i. f (l + suc i))) (add-zero l))
+
+  -- an entry of one of the lists is an entry of the joined list
+  pub each-entry : (d : A) (n : ℕ) (f : ℕ → List A) (k j : ℕ) → k < n → j < length (f k)
+      → (i : ℕ) × (i < length (each n f)) × (getD (each n f) i d ≡ getD (f k) j d)
+  unfolding each
+  each-entry d zero f k j h l = absurd (not-suc-le-zero h)
+  each-entry d (suc n) f k j h l =
+      ⊎-elim
+      (λ b.
+      let r = each-entry d n f k j b l in
+      (r .0, omega (arith, r .1, length-append (each n f) (f n)), List·getD-append (each n f) (f n) d (r .0) (r .1) ∙ r .2))
+      (λ b.
+      let e : k ≡ n = omega arith in
+      let l′ : j < length (f n) = subst (λ (x : ℕ). j < length (f x)) e l in (
+        length (each n f) + j,
+        omega (arith, length-append (each n f) (f n)),
+        getD-append-add (each n f) (f n) j d ∙ ap (λ (x : ℕ). getD (f x) j d) (sym e),
+      )) (lt-or k n)
+
+  -- what holds of every member of each of the lists holds of every member of the joined list
+  pub each-all : (P : A → Type 0) (n : ℕ) (f : ℕ → List A) → ((i : ℕ) → i < n → All P (f i)) → All P (each n f)
+  unfolding each All
+  each-all P zero f h = tt
+  each-all P (suc n) f h = all-append P (each n f) (f n) (each-all P n f (λ i l. h i (omega arith))) (h n (omega arith))
+
   -- m rows of n, one after the other, are the numbers below m * n
   pub each-rows : (m n : ℕ) (f : ℕ → List A) → each (m * n) f ≡ each m (λ j. each n (λ i. f (j * n + i)))
   unfolding each
@@ -183,19 +220,6 @@ same-at2 n m f g t i j hi hj = eqb→eq (f i j) (g i j) (all-at2 n m (λ i j. eq
 pub beq-at2 : (n m : ℕ) (f g : ℕ → ℕ → Bool) → T (all n (λ i. all m (λ j. Bool·beq (f i j) (g i j)))) → (i j : ℕ) → i < n → j < m → f i j ≡ g i j
 beq-at2 n m f g t i j hi hj = beq→eq (f i j) (g i j) (all-at2 n m (λ i j. Bool·beq (f i j) (g i j)) t i j hi hj)
 
--- a number that passes
-pub record Found (n : ℕ) (p : ℕ → Bool) : Type 0 where
-  pub place : ℕ
-  pub below : place < n
-  pub holds : p place ≡ true
-
-pub any-found : (n : ℕ) (p : ℕ → Bool) → any n p ≡ true → Found n p
-unfolding any
-any-found zero p e = absurd (false≢true e)
-any-found (suc n) p e =
-    ⊎-elim (λ q. let f = any-found n p q in record { place = f .place; below = omega (arith, f .below); holds = f .holds })
-    (λ q. record { place = n; below = omega arith; holds = q }) (or-apart (any n p) (p n) e)
-
 -- some number passes where one does
 pub any-some : (n : ℕ) (p : ℕ → Bool) (k : ℕ) → k < n → p k ≡ true → any n p ≡ true
 unfolding any
@@ -207,6 +231,23 @@ any-some (suc n) p k h e =
     last : (b : Bool) → b || true ≡ true
     last true = refl
     last false = refl
+
+-- the loop's turn: one number more
+pub any-more : (k : ℕ) (p : ℕ → Bool) → any (k + 1) p ≡ any k p || p k
+unfolding any
+any-more k p = rw add-one
+
+pub any-same : (n : ℕ) (p q : ℕ → Bool) → ((k : ℕ) → k < n → p k ≡ q k) → any n p ≡ any n q
+unfolding any
+any-same zero p q h = refl
+any-same (suc n) p q h = ap₂ (λ (x y : Bool). x || y) (any-same n p q (λ k l. h k (omega arith))) (h n (omega arith))
+
+-- where the test passes at some number, there is one
+pub any-one : (n : ℕ) (p : ℕ → Bool) → any n p ≡ true → (k : ℕ) × (k < n) × (p k ≡ true)
+unfolding any
+any-one zero p e = absurd (false≢true e)
+any-one (suc n) p e =
+    ⊎-elim (λ l. let r = any-one n p l in (r .0, omega (arith, r .1), r .2)) (λ l. (n, omega arith, l)) (or-apart (any n p) (p n) e)
 
 -- none does where none does
 pub any-none : (n : ℕ) (p : ℕ → Bool) → ((k : ℕ) → k < n → p k ≡ false) → any n p ≡ false

@@ -14,7 +14,7 @@ use lib.Ieee.{Float, lt}
 use Rattle.laws.specs.Ranges.{fold, any}
 use Rattle.laws.specs.Digits.{isSet}
 use Rattle.laws.proofs.Bools.{bool-ext, and-apart}
-use Rattle.laws.proofs.Ranges.{eq-or, lt-or, fold-or, any-found, any-some}
+use Rattle.laws.proofs.Ranges.{eq-or, lt-or, fold-or, any-one, any-some}
 use Rattle.laws.proofs.Digits.{set-or-pow}
 use Rattle.sides.specs.declared.Crossing.{Crossing}
 use Rattle.sides.specs.declared.Crossing.the-variants.{SameSide, At}
@@ -189,7 +189,7 @@ module _ (n : Sides) (S : List Float) (h : Float) (f : SidesFit n) (x e : ℕ) (
   hits-marked =
       bool-ext (any (sites n) (λ s. any 7 (λ l. hits n S h s l x e))) (marked n S h x e)
       (λ q.
-      let a = any-found (sites n) (λ s. any 7 (λ l. hits n S h s l x e)) q in
-      let b = any-found 7 (λ l. hits n S h (a .place) l x e) (a .holds) in
-      hit-marked (a .place) (b .place) (a .below) (b .below) (b .holds))
+      let a = any-one (sites n) (λ s. any 7 (λ l. hits n S h s l x e)) q in
+      let b = any-one 7 (λ l. hits n S h (a .0) l x e) (a .2) in
+      hit-marked (a .0) (b .0) (a .1) (b .1) (b .2))
       (λ q. marked-from (acrossOf n x e) refl q)

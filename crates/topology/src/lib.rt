@@ -1,0 +1,246 @@
+// The topology test of a site: which of the intersections near it may share a vertex.
+ghost use mathlib.Core.Path.{_≡_};
+ghost use Rattle.topology.specs.Walk.{lowBit, componentsOf};
+ghost use Rattle.topology.specs.Flat.{twoEdges, collapses, isFlat};
+ghost use Rattle.topology.specs.Topology.{singles, clustersOf, topologyOf, caseNumber};
+ghost use mathlib.Core.List.{[], _∷_};
+use sides::Sample;
+use tables::ALL14_MASK;
+use tables::FLAT_HOLES;
+
+pub enum TopologyCase {
+    ClosedSurface,
+    MultiHole,
+    FlatHole,
+    MultiSurface,
+    SimpleSurface,
+    DoNotCluster,
+}
+
+// The edges of each cluster, as masks.
+pub struct Clusters {
+    pub count: usize,
+    pub masks: [u16; 14],
+}
+
+pub struct TopologyResult {
+    pub case: TopologyCase,
+    pub clusters: Clusters,
+}
+
+// The case's place among the counts that are printed.
+pub fn case_number(case: TopologyCase) -> usize
+    ensures { λ r. ⌜ r ≡ caseNumber case ⌝ }
+{
+    match case {
+        TopologyCase::ClosedSurface => 0,
+        TopologyCase::MultiHole => 1,
+        TopologyCase::FlatHole => 2,
+        TopologyCase::MultiSurface => 3,
+        TopologyCase::SimpleSurface => 4,
+        TopologyCase::DoNotCluster => 5,
+    }
+}
+
+// The connected components of a mask, in order of their lowest edge.
+pub struct Components {
+    pub count: usize,
+    pub masks: [u16; 14],
+}
+
+// The lowest set bit of x; 0 for 0.
+fn lowbit(x: u16) -> u16
+    ensures { λ r. ⌜ r ≡ lowBit x ⌝ }
+{
+    x & std::num::wrapping_sub_u16(0, x)
+}
+
+// Takes an edge that remains, then those of its neighbours that remain, then theirs, until no more are found; and then begins again.
+pub fn connected_components_masks(edge_mask: u16) -> Components
+    ensures { λ r. ⌜ r ≡ componentsOf «edge_mask» ⌝ }
+{
+    let mut remaining = edge_mask & ALL14_MASK;
+    let mut masks = [0u16; 14];
+    let mut count: usize = 0;
+    'comps: while remaining != 0 {
+        let seed = lowbit(remaining);
+        remaining ^= seed;
+        let mut comp: u16 = 0;
+        let mut frontier: u16 = seed;
+        'walk: while frontier != 0 {
+            let b = lowbit(frontier);
+            frontier ^= b;
+            let e = u16::trailing_zeros(b) as usize;
+            comp |= b;
+            let nbrs = tables::neighbour_mask(e) & remaining;
+            remaining ^= nbrs;
+            frontier |= nbrs;
+        }
+        masks[count] = comp;
+        count += 1;
+    }
+    Components { count, masks }
+}
+
+pub struct TwoEdges {
+    pub first: usize,
+    pub second: usize,
+}
+
+// The two edges of a mask that has two.
+fn two_edge_indices(mask: u16) -> TwoEdges
+    ensures { λ r. ⌜ r ≡ twoEdges mask ⌝ }
+{
+    let b = lowbit(mask);
+    let first = u16::trailing_zeros(mask) as usize;
+    let second = u16::trailing_zeros(mask ^ b) as usize;
+    TwoEdges { first, second }
+}
+
+// Of the values at four ends: the crossings from a to c and d are both near a, or those from b both near b.
+fn would_collapse(a: f64, b: f64, c: f64, d: f64, h: f64) -> bool
+    ensures { λ r. ⌜ r ≡ collapses a b c d h ⌝ }
+{
+    let near_a = sides::is_near(a, d, h) && sides::is_near(a, c, h);
+    let near_b = sides::is_near(b, d, h) && sides::is_near(b, c, h);
+    near_a || near_b
+}
+
+// Whether a surface connected around the site, with near intersections on the edges of the mask, would be flattened.
+fn is_flat_hole(surface_comp: u16, ends: [Sample; 14], h: f64) -> bool
+    ensures { λ r. ⌜ r ≡ isFlat «surface_comp» ends h ⌝ }
+{
+    let mut i: usize = 0;
+    'rows: while i < FLAT_HOLES {
+        let row = tables::flat_hole(i);
+        let edge_mask = row.edges;
+        let opposite_mask = row.opposite;
+        i += 1;
+        if surface_comp & edge_mask != 0 {
+            continue 'rows;
+        }
+        if surface_comp & opposite_mask != opposite_mask {
+            continue 'rows;
+        }
+        let off = two_edge_indices(edge_mask);
+        let on = two_edge_indices(opposite_mask);
+        let a = off.first;
+        let b = off.second;
+        let c = on.first;
+        let d = on.second;
+        let a_end = ends[a];
+        let b_end = ends[b];
+        let c_end = ends[c];
+        let d_end = ends[d];
+        let Sample::Value(a_val) = a_end else {
+            continue 'rows;
+        };
+        let Sample::Value(b_val) = b_end else {
+            continue 'rows;
+        };
+        let Sample::Value(c_val) = c_end else {
+            continue 'rows;
+        };
+        let Sample::Value(d_val) = d_end else {
+            continue 'rows;
+        };
+        if would_collapse(a_val, b_val, c_val, d_val, h) {
+            return true;
+        }
+    }
+    false
+}
+
+// Each intersection as a cluster of its own.
+fn do_not_cluster(edge_mask: u16) -> Clusters
+    ensures { λ r. ⌜ r ≡ clustersOf (singles «edge_mask») ⌝ }
+{
+    let mut left = edge_mask & ALL14_MASK;
+    let mut masks = [0u16; 14];
+    let mut count: usize = 0;
+    while left != 0 {
+        let e = u16::trailing_zeros(left);
+        let b = 1u16 << e;
+        left ^= b;
+        masks[count] = b;
+        count += 1;
+    }
+    Clusters { count, masks }
+}
+
+fn no_cluster() -> Clusters
+    ensures { λ r. ⌜ r ≡ clustersOf [] ⌝ }
+{
+    Clusters {
+        count: 0,
+        masks: [0u16; 14],
+    }
+}
+
+// All intersections in one cluster.
+fn one_cluster(edge_mask: u16) -> Clusters
+    ensures { λ r. ⌜ r ≡ clustersOf («edge_mask» ∷ []) ⌝ }
+{
+    let mut masks = [0u16; 14];
+    masks[0] = edge_mask;
+    Clusters { count: 1, masks }
+}
+
+// The case of a site and its clusters: the mask of its near intersections, whether to cluster, and the samples at the other ends
+// of its edges, in which one that is not finite counts as missing.
+pub fn test_topology(near_mask: u16, cluster: bool, ends: [Sample; 14], h: f64) -> TopologyResult
+    ensures { λ r. ⌜ r ≡ topologyOf «near_mask» cluster ends h ⌝ }
+{
+    let m = near_mask & ALL14_MASK;
+    if m == 0 {
+        let clusters = no_cluster();
+        return TopologyResult {
+            case: TopologyCase::SimpleSurface,
+            clusters,
+        };
+    }
+    if !cluster {
+        let clusters = do_not_cluster(m);
+        return TopologyResult {
+            case: TopologyCase::DoNotCluster,
+            clusters,
+        };
+    }
+    if m == ALL14_MASK {
+        let clusters = do_not_cluster(m);
+        return TopologyResult {
+            case: TopologyCase::ClosedSurface,
+            clusters,
+        };
+    }
+    let surfaces = connected_components_masks(m);
+    if surfaces.count > 1 {
+        let count = surfaces.count;
+        let masks = surfaces.masks;
+        let clusters = Clusters { count, masks };
+        return TopologyResult {
+            case: TopologyCase::MultiSurface,
+            clusters,
+        };
+    }
+    let holes = connected_components_masks(ALL14_MASK & !m);
+    if holes.count != 1 {
+        let clusters = do_not_cluster(m);
+        return TopologyResult {
+            case: TopologyCase::MultiHole,
+            clusters,
+        };
+    }
+    if is_flat_hole(m, ends, h) {
+        let clusters = do_not_cluster(m);
+        return TopologyResult {
+            case: TopologyCase::FlatHole,
+            clusters,
+        };
+    }
+    let clusters = one_cluster(m);
+    TopologyResult {
+        case: TopologyCase::SimpleSurface,
+        clusters,
+    }
+}

@@ -1,0 +1,103 @@
+// Prints the case and the clusters of every 61st mask, with samples at the ends that a fixed generator makes.
+// The generator goes through all masks and ends in order, so that the lines are those of a run over all masks.
+use sides::Sample;
+
+const SEED: u64 = 1;
+
+const STEP: u16 = 61;
+
+fn wide(x: u16) -> u64 {
+    x as u64
+}
+
+// x times 6364136223846793005, and 1442695040888963407, modulo 2^64.
+fn next(x: u64) -> u64 {
+    let low = x % 0x100000000;
+    let high = x / 0x100000000;
+    let cross = std::num::wrapping_add_u64(low * 0x5851F42D, high * 0x4C957F2D);
+    let product = std::num::wrapping_add_u64(low * 0x4C957F2D, cross << 32);
+    std::num::wrapping_add_u64(product, 1442695040888963407)
+}
+
+// What the generator's top five bits stand for; a value that is not finite counts as missing.
+fn sample(top: u64) -> Sample {
+    match top {
+        0 | 6 | 14 | 27 => sides::finite_sample(1.0),
+        1 | 7 | 15 => sides::finite_sample(-1.0),
+        2 | 8 | 16 => sides::finite_sample(3.0),
+        3 | 9 | 17 => sides::finite_sample(-3.0),
+        4 | 10 | 18 => sides::finite_sample(0.5),
+        5 | 11 | 19 => sides::finite_sample(-0.5),
+        12 => sides::finite_sample(2.0),
+        13 => sides::finite_sample(-2.0),
+        20 => sides::finite_sample(0.0),
+        21 => sides::finite_sample(-0.0),
+        22 => sides::finite_sample(-1.0e-9),
+        23 => sides::finite_sample(-1.0000000000000003e-9),
+        24 => sides::finite_sample(5.0e-324),
+        25 => sides::finite_sample(1.0e308),
+        26 => sides::finite_sample(-1.0e308),
+        28 => sides::finite_sample(0.0 / 0.0),
+        29 => sides::finite_sample(1.0 / 0.0),
+        30 => sides::finite_sample(-1.0 / 0.0),
+        _ => Sample::Missing,
+    }
+}
+
+// The samples at the fourteen ends, from the state before the first of them; and the state after the last.
+fn samples(from: u64) -> [Sample; 14] {
+    let mut ends = [Sample::Missing; 14];
+    let mut x = from;
+    for e in 0..14 {
+        x = next(x);
+        ends[e] = sample(x / 0x800000000000000);
+    }
+    ends
+}
+
+fn after(from: u64) -> u64 {
+    let mut x = from;
+    for _ in 0..14usize {
+        x = next(x);
+    }
+    x
+}
+
+fn show_mask(mask: u16) {
+    io::write_all(1, b" ");
+    io::print_hex(1, wide(mask), 4);
+}
+
+fn show_clusters(count: usize, masks: [u16; 14]) {
+    for i in 0..14 {
+        if i < count {
+            show_mask(masks[i]);
+        }
+    }
+}
+
+fn show(mask: u16, ends: [Sample; 14]) {
+    let r = topology::test_topology(mask, true, ends, sides::threshold());
+    let case = r.case;
+    let clusters = r.clusters;
+    let count = clusters.count;
+    let masks = clusters.masks;
+    io::print_hex(1, wide(mask), 4);
+    io::write_all(1, b" ");
+    io::print_decimal(1, topology::case_number(case) as u64);
+    io::write_all(1, b" ");
+    io::print_decimal(1, count as u64);
+    show_clusters(count, masks);
+    io::write_all(1, b"\n");
+}
+
+fn main() {
+    let mut x = SEED;
+    for mask in 0..16384u16 {
+        if mask % STEP == 0 {
+            let ends = samples(x);
+            show(mask, ends);
+        }
+        x = after(x);
+    }
+}
