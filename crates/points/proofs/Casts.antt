@@ -1,18 +1,16 @@
 -- The numbers i, j and k of a site are small: the cast to f64 loses nothing, and three casts make the site's place. Assumes nothing.
-use mathlib.Core.Path.{_≡_, refl, sym, ap, subst, _∙_}
-use Prim.Native.Nat.{ℕ, zero, suc, _+_, _^_, _≤_, _<_}
+use mathlib.Core.Path.{_≡_, sym, ap, subst, _∙_}
+use Prim.Native.Nat.{ℕ, suc, _+_, _^_, _≤_, _<_}
 use native.Mathlib.Omega.{arith}
-use lib.Dec.{T, lit≤, lit<}
+use lib.Dec.{T, lit≤}
 use borrow.Author.Tests.{le-leb, lt-ltb}
 use native.Mathlib.Nat.{le-trans}
 use lib.IntN.{ℤ, pos, negsuc, _-ℤ_}
 use lib.Ieee.{Float, binary64, ofInt, toSigned, inFloat}
 use lib.Signed.{mag}
-use mir.Val.{toZ, ofZ}
-use mir.Syntax.{w64}
 use lib.Ieee.Back.{positive-back, negative-back}
 use Rattle.laws.proofs.Bools.{true-T}
-use Rattle.laws.proofs.Ints.{above, under, Rep, nat, neg, _⊞_}
+use Rattle.laws.proofs.Ints.{above, under, nat, neg, _⊞_}
 use Rattle.lattice.specs.declared.Ijk.{Ijk}
 use Rattle.lattice.specs.Sites.{ijkOf}
 use Rattle.lattice.proofs.Owner.{rd, read-back}
@@ -64,6 +62,9 @@ ijk-small u v w p q r =
       j = small-difference u v (omega arith) (omega arith);
       k = small-difference 0 w (omega arith) (omega arith);
     }
+
+pub site-small : (at : Ijk) (u v w : ℕ) → at ≡ ijkOf u v w → (u < 32) × (v < 32) × (w < 32) → SmallIjk at
+site-small at u v w e h = subst SmallIjk (sym e) (ijk-small u v w (h .0) (h .1) (h .2))
 
 -- ---- what the machine reads back of the three numbers' bits
 

@@ -1,14 +1,14 @@
 -- In an accepted frame each point of a crossed edge is finite, and so is each mean of up to fourteen such points. Assumes nothing.
-use Prim.Native.Nat.{ℕ, zero, suc, _+_, _*_, _^_, _≤_, _<_}
+use Prim.Native.Nat.{ℕ, suc, _+_, _*_, _^_, _≤_, _<_}
 use native.Mathlib.Nat.{mul-one, one-mul, le-trans, le-of-eq, mul-le-mul-right}
 use native.Mathlib.Omega.{arith}
 use mathlib.Core.Path.{_≡_, refl, sym, ap, subst}
-use mathlib.Core.Bool.{Bool, true, false, _&&_, cond, false≢true}
+use mathlib.Core.Bool.{Bool, true, false, _&&_, Bool·beq, cond, false≢true}
 use mathlib.Core.List.{List, [], _∷_}
-use lib.IntN.{ℤ, pos}
+use lib.IntN.{pos}
 use lib.Dec.{T, lit≤, lit<}
 use lib.ListN.{length}
-use lib.Ieee.{Float, fin, binary64, low, round, add, mul, div, ofInt, ofBits, fits}
+use lib.Ieee.{Float, fin, binary64, low, round, ofInt, ofBits, fits}
 use Rattle.sides.specs.Sides.{finite, inside, pointFraction}
 use Rattle.lattice.specs.declared.Ijk.{Ijk}
 use Rattle.lattice.specs.declared.Uvw.{Uvw}
@@ -21,9 +21,9 @@ use Rattle.points.specs.Positions.{position}
 use Rattle.points.specs.Limits.{frameOk}
 use Rattle.points.specs.EdgePoints.{interpolate, edgePoint}
 use Rattle.points.specs.Means.{zeros, one, plus, times, total, share, meanOf}
-use Rattle.points.specs.Finite.{finitePoint, Low, OnEdge, AllOnEdges, end, next}
+use Rattle.points.specs.Finite.{finitePoint, hasFinitePoint, Low, OnEdge, AllOnEdges, end, next}
 use Rattle.points.proofs.Sizes.{Under, under-more, under-finite, add-under, mul-under}
-use Rattle.points.proofs.Casts.{SmallIjk, ijk-small}
+use Rattle.points.proofs.Casts.{ijk-small}
 use Rattle.points.proofs.Limits.{PointUnder, position-under, interpolate-under}
 use Rattle.points.proofs.Gaps.{Units, round-least, fraction-under}
 use Rattle.points.proofs.Fraction.{fraction-under-55}
@@ -75,8 +75,20 @@ edge-under f h c ok o =
     (position-under f b ok (ijk-small (o .b .u) (o .b .v) (o .b .w) (o .b-low .on-u) (o .b-low .on-v) (o .b-low .on-w)))
     (fraction-under-55 (o .p) (o .q) (o .p-fits) (o .q-fits) (k .p-finite) (k .q-finite) (sides-differ (o .p) (o .q) h (k .p-finite) (k .q-finite) (o .differ))))
 
-pub edge-finite : (f : Frame) (h : Float) (c : Point) → frameOk f ≡ true → OnEdge f h c → finitePoint c ≡ true
-edge-finite f h c ok o = under-finite-point c 88 (edge-under f h c ok o)
+-- each point of a crossed edge
+pub on-edge-finite : (f : Frame) (h : Float) (c : Point) → frameOk f ≡ true → OnEdge f h c → finitePoint c ≡ true
+on-edge-finite f h c ok o = under-finite-point c 88 (edge-under f h c ok o)
+
+-- finite samples on different sides of any threshold h have a point, and it is finite
+pub edge-finite : (f : Frame) (h : Float) (a b : Uvw) (p q : Float) → frameOk f ≡ true → Low a → Low b → T (fits binary64 p) → T (fits binary64 q)
+    → finite p ≡ true → finite q ≡ true → Bool·beq (inside p h) (inside q h) ≡ false
+    → hasFinitePoint (edgePoint f (ijkOf (a .u) (a .v) (a .w)) (ijkOf (b .u) (b .v) (b .w)) p q) ≡ true
+unfolding hasFinitePoint
+edge-finite f h a b p q ok la lb fp fq x y d =
+    let e = edge-at f (ijkOf (a .u) (a .v) (a .w)) (ijkOf (b .u) (b .v) (b .w)) p q x y in
+    rw e
+    (on-edge-finite f h _ ok
+    (record { a = a; b = b; p = p; q = q; a-low = la; b-low = lb; p-fits = fp; q-fits = fq; differ = d; is = e }))
 
 -- ---- a mean
 

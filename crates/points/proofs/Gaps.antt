@@ -1,17 +1,17 @@
 -- Two different f64 values differ by enough: each is at most 2 ^ 53 + 1 times their difference; and a quotient by what is not too small is not too large. Assumes nothing.
-use Prim.Native.Nat.{ℕ, zero, suc, _+_, _-_, _*_, _/_, _%_, _^_, _≤_, _<_}
-use native.Mathlib.Nat.{zero-lt-suc, suc-mul, le-trans, le-of-eq, le-of-lt, lt-of-lt-of-le, lt-of-le-of-lt, le-refl, lt-irrefl, not-le-of-lt, mul-comm, mul-assoc, mul-left-comm, mul-right-comm, mul-le-mul, mul-le-mul-right, mul-le-mul-left, le-of-mul-le-mul-right, mul-pos, mul-one, one-mul, zero-mul, mul-zero, mul-lt-mul-of-pos-right, lt-of-mul-lt-mul-right, mul-sub, add-mul, pow-suc}
+use Prim.Native.Nat.{ℕ, zero, suc, _+_, _-_, _*_, _%_, _^_, _≤_, _<_}
+use native.Mathlib.Nat.{zero-lt-suc, suc-mul, le-trans, le-of-eq, le-of-lt, not-le-of-lt, mul-comm, mul-assoc, mul-left-comm, mul-right-comm, mul-le-mul-right, mul-le-mul-left, le-of-mul-le-mul-right, mul-pos, mul-one, one-mul, zero-mul, mul-lt-mul-of-pos-right, lt-of-mul-lt-mul-right, add-mul}
 use native.Mathlib.Omega.{arith}
 use mathlib.Core.Path.{_≡_, refl, sym, ap, _∙_, subst}
-use mathlib.Core.Logic.{_⊎_, inl, inr}
-use mathlib.Core.Bool.{Bool, true, false, not, _&&_, _||_, Bool·beq, cond, true≢false}
+use mathlib.Core.Logic.{inl, inr}
+use mathlib.Core.Bool.{Bool, true, false, _&&_, true≢false}
 use lib.IntN.{ℤ, pos, negsuc}
-use lib.Dec.{eqb·suc-zero, T, ltb, leb, eqb, ltb→lt, leb→le, lit<, lit≤}
-use lib.Pow.{pow-add, pow-pos, pow-mono, pow-lt, shl-lt}
+use lib.Dec.{eqb·suc-zero, T, ltb, leb, eqb, ltb→lt, leb→le, lit<}
+use lib.Pow.{pow-add, pow-pos, pow-lt}
 use Rattle.laws.proofs.Ranges.{lt-or}
-use lib.Ieee.{Float, nan, inf, fin, Format, binary64, prec, emax, low, up, down, size, round, sum, neg, add, sub, div, le, lt, fits}
-use lib.Ieee.Digits.{back, size-lt, size-reaches, size-le}
-use lib.Ieee.Fits.{down-pos, up-pos, and-l, and-r, two, two-le-pos}
+use lib.Ieee.{Float, nan, inf, fin, Format, binary64, prec, emax, low, up, down, round, neg, div, le, lt, fits}
+use lib.Ieee.Digits.{back}
+use lib.Ieee.Fits.{down-pos, up-pos, two, two-le-pos}
 use lib.Ieee.Exact.{HasValue, round-exact}
 use lib.Ieee.Order.{round-mono}
 use Rattle.points.proofs.Rounding.{neg-round, plus, plus-round}

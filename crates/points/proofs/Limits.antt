@@ -1,19 +1,19 @@
 -- In an accepted frame the place of a site is finite, at most 2 ^ 31 on each axis. Assumes nothing.
-use Prim.Native.Nat.{ℕ, zero, suc, _+_, _*_, _^_, _≤_, _<_}
+use Prim.Native.Nat.{ℕ, suc, _+_, _*_, _^_, _≤_, _<_}
 use native.Mathlib.Nat.{le-trans, le-of-eq, mul-one, mul-le-mul-right}
 use native.Mathlib.Omega.{arith}
 use mathlib.Core.Path.{_≡_, refl, sym}
-use mathlib.Core.Bool.{Bool, true, false, _&&_, _||_, false≢true}
+use mathlib.Core.Bool.{Bool, true, false, _&&_, _||_}
 use lib.IntN.{ℤ, pos, negsuc}
 use lib.Dec.{T, ltb, eqb, ltb→lt, eqb→eq, lit≤}
-use lib.Ieee.{Float, nan, inf, fin, binary64, up, down, round, add, sub, mul, neg, le, lt, eq, ofInt}
+use lib.Ieee.{Float, nan, inf, fin, binary64, up, down, round, sub, mul, neg, le, lt, eq, ofInt}
 use lib.Ieee.Fits.{down-pos}
 use Rattle.laws.proofs.Bools.{and-apart, true-T}
 use Rattle.lattice.specs.declared.Ijk.{Ijk}
 use Rattle.points.specs.declared.Point.{Point}
 use Rattle.points.specs.declared.Frame.{Frame}
 use Rattle.points.specs.Positions.{along, position}
-use Rattle.points.specs.Limits.{billion, million, thousandth, originOk, stepOk, frameOk}
+use Rattle.points.specs.Limits.{billion, million, thousandth, originOk, stepOk, originsOk, stepsOk, frameOk}
 use Rattle.points.specs.EdgePoints.{towards, interpolate}
 use Rattle.points.proofs.Sizes.{Under, under-more, add-under, sub-under, mul-under, or-le}
 use Rattle.points.proofs.Casts.{Small, small-under, SmallIjk}
@@ -100,18 +100,27 @@ pub record PointUnder (p : Point) (k : ℕ) : Type 0 where
   pub y : Under (p .y) k
   pub z : Under (p .z) k
 
+pub record AllThree (ok : Float → Bool) (p : Point) : Type 0 where
+  pub x : ok (p .x) ≡ true
+  pub y : ok (p .y) ≡ true
+  pub z : ok (p .z) ≡ true
+
+all-three : (ok : Float → Bool) (p : Point) → ok (p .x) && ok (p .y) && ok (p .z) ≡ true → AllThree ok p
+all-three ok p e =
+    let b = and-apart (ok (p .x) && ok (p .y)) (ok (p .z)) e in
+    let a = and-apart (ok (p .x)) (ok (p .y)) (b .0) in
+    record { x = a .0; y = a .1; z = b .1 }
+
 pub position-under : (f : Frame) (at : Ijk) → frameOk f ≡ true → SmallIjk at → PointUnder (position f at) 31
-unfolding frameOk position
+unfolding frameOk originsOk stepsOk position
 position-under f at ok h =
-    let e = and-apart (originOk (f .origin .x) && originOk (f .origin .y) && originOk (f .origin .z) && stepOk (f .step .x) && stepOk (f .step .y)) (stepOk (f .step .z)) ok in
-    let d = and-apart (originOk (f .origin .x) && originOk (f .origin .y) && originOk (f .origin .z) && stepOk (f .step .x)) (stepOk (f .step .y)) (e .0) in
-    let c = and-apart (originOk (f .origin .x) && originOk (f .origin .y) && originOk (f .origin .z)) (stepOk (f .step .x)) (d .0) in
-    let b = and-apart (originOk (f .origin .x) && originOk (f .origin .y)) (originOk (f .origin .z)) (c .0) in
-    let a = and-apart (originOk (f .origin .x)) (originOk (f .origin .y)) (b .0) in
+    let b = and-apart (originsOk (f .origin)) (stepsOk (f .step)) ok in
+    let o = all-three originOk (f .origin) (b .0) in
+    let s = all-three stepOk (f .step) (b .1) in
     record {
-      x = along-under (f .origin .x) (f .step .x) (at .i) (a .0) (c .1) (h .i);
-      y = along-under (f .origin .y) (f .step .y) (at .j) (a .1) (d .1) (h .j);
-      z = along-under (f .origin .z) (f .step .z) (at .k) (b .1) (e .1) (h .k);
+      x = along-under (f .origin .x) (f .step .x) (at .i) (o .x) (s .x) (h .i);
+      y = along-under (f .origin .y) (f .step .y) (at .j) (o .y) (s .y) (h .j);
+      z = along-under (f .origin .z) (f .step .z) (at .k) (o .z) (s .z) (h .k);
     }
 
 towards-under : (a b t : Float) (k : ℕ) → k ≤ 980 → Under a 31 → Under b 31 → Under t k → Under (towards a b t) (suc (k + 32))

@@ -3,14 +3,14 @@ use Prim.Native.Nat.{ℕ, suc, _+_}
 use native.Mathlib.Nat.{add-zero}
 use native.Mathlib.Omega.{arith}
 use mathlib.Core.Path.{_≡_, refl, sym, _∙_}
-use mathlib.Core.Bool.{Bool, true, false, cond}
+use mathlib.Core.Bool.{false, cond}
 use mathlib.Core.List.{List, [], _∷_, _++_}
 use lib.ListN.{length}
 use lib.Dec.{eqb}
 use borrow.Author.Tests.{ne-eqb}
 use Rattle.points.specs.declared.Point.{Point}
 use Rattle.points.specs.declared.Sum.{Sum}
-use Rattle.points.specs.Means.{zeros, plus, times, total, share, meanOf, none, more, meanSum, gather, sumOf}
+use Rattle.points.specs.Means.{zeros, times, total, share, meanOf, none, more, meanSum, gather, sumOf}
 
 gather-total : (ps : List Point) (s : Sum) → gather s ps .total ≡ total (s .total) ps
 unfolding more

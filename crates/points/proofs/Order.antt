@@ -1,11 +1,10 @@
 -- Equal values compare alike, so values on different sides of a threshold are not equal. Assumes nothing.
-use Prim.Native.Nat.{ℕ, zero, suc, _+_, _*_, _≤_, _<_, zero-le}
+use Prim.Native.Nat.{ℕ, _+_, _*_, _≤_, _<_, zero-le}
 use native.Mathlib.Nat.{mul-pos, zero-mul, zero-add, eq-zero-or-pos, lt-of-lt-of-le, mul-right-comm, mul-lt-mul-of-pos-right, lt-of-mul-lt-mul-right, lt-irrefl, add-mul}
-use native.Mathlib.Omega.{arith}
 use mathlib.Core.Path.{_≡_, refl, sym, ap, _∙_, subst}
-use mathlib.Core.Logic.{_⊎_, inl, inr}
+use mathlib.Core.Logic.{inl, inr}
 use mathlib.Core.Bool.{Bool, true, false, _&&_, _||_, Bool·beq, true≢false, false≢true}
-use lib.Dec.{T, ltb, eqb}
+use lib.Dec.{ltb, eqb}
 use Rattle.laws.proofs.Ranges.{lt-or}
 use lib.Ieee.{Float, nan, inf, fin, up, down, neg, lt, eq, below}
 use lib.Ieee.Fits.{down-pos}

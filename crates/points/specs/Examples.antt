@@ -1,9 +1,9 @@
 -- Examples of points and means, which antt computes: -0.0 alone stays -0.0, beside another it does not. Assumes nothing.
 use mathlib.Core.Path.{_≡_, refl}
 use mathlib.Core.Bool.{Bool, true, false}
-use mathlib.Core.List.{List, [], _∷_}
+use mathlib.Core.List.{[], _∷_}
 use Prim.Native.Nat.{ℕ}
-use lib.IntN.{pos, negsuc}
+use lib.IntN.{pos}
 use lib.Ieee.{Float, fin, binary64, add, mul, sub, div, neg, ofInt, ofBits, round, le}
 use Rattle.sides.specs.Sides.{finite, pointFraction}
 use Rattle.lattice.specs.Sites.{ijkOf}
@@ -11,7 +11,7 @@ use Rattle.points.specs.declared.Point.{Point}
 use Rattle.points.specs.declared.Frame.{Frame}
 use Rattle.points.specs.declared.EdgePoint.the-variants.{At}
 use Rattle.points.specs.Positions.{frameOf, along, position}
-use Rattle.points.specs.Limits.{originOk, stepOk, frameOk}
+use Rattle.points.specs.Limits.{originOk, stepOk, originsOk, stepsOk, frameOk}
 use Rattle.points.specs.EdgePoints.{interpolate, edgePoint}
 use Rattle.points.specs.Means.{meanOf}
 
@@ -45,7 +45,7 @@ two-mean = refl
 
 -- the ends of the limits are taken, and the next value past an end is not
 pub ends : frameOk (frameOf (all (ofBits binary64 0xC1CDCD6500000000)) (all (ofBits binary64 0x3F50624DD2F1A9FC))) ≡ true
-unfolding frameOk frameOf originOk stepOk ofBits ofInt round le neg
+unfolding frameOk frameOf originsOk stepsOk originOk stepOk ofBits ofInt round le neg
 ends = refl
 
 pub past-origin : originOk (ofBits binary64 0x41CDCD6500000001) ≡ false

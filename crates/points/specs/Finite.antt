@@ -1,8 +1,8 @@
 -- What the theorems of finite points speak of: a finite point, and a point that the build makes on a crossed edge. Assumes nothing.
 use mathlib.Core.Path.{_≡_}
-use mathlib.Core.Bool.{Bool, true, false, _&&_, Bool·beq}
+use mathlib.Core.Bool.{Bool, false, _&&_, Bool·beq}
 use mathlib.Core.List.{List, [], _∷_}
-use Prim.Native.Nat.{ℕ, _<_}
+use Prim.Native.Nat.{_<_}
 use lib.Dec.{T}
 use lib.Ieee.{Float, binary64, fits}
 use Rattle.sides.specs.Sides.{inside, finite}
@@ -10,11 +10,17 @@ use Rattle.lattice.specs.declared.Uvw.{Uvw}
 use Rattle.lattice.specs.Sites.{ijkOf}
 use Rattle.points.specs.declared.Point.{Point}
 use Rattle.points.specs.declared.Frame.{Frame}
-use Rattle.points.specs.declared.EdgePoint.the-variants.{At}
+use Rattle.points.specs.declared.EdgePoint.{EdgePoint}
+use Rattle.points.specs.declared.EdgePoint.the-variants.{Missing, At}
 use Rattle.points.specs.EdgePoints.{edgePoint}
 
 unfoldable pub finitePoint : Point → Bool
 finitePoint p = finite (p .x) && finite (p .y) && finite (p .z)
+
+-- there is a point, and it is finite
+unfoldable pub hasFinitePoint : EdgePoint → Bool
+hasFinitePoint Missing = false
+hasFinitePoint (At c) = finitePoint c
 
 -- a site of a box: no side is over 32
 pub record Low (p : Uvw) : Type 0 where

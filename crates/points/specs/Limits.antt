@@ -1,5 +1,5 @@
 -- The frames that a build takes: origins within -1e9 to 1e9, steps within 0.001 to 1e6, ends included, no NaN. Assumes nothing.
-use mathlib.Core.Bool.{Bool, true, false, _&&_}
+use mathlib.Core.Bool.{Bool, false, _&&_}
 use lib.IntN.{pos}
 use lib.Ieee.{Float, binary64, ofInt, round, neg, le}
 use Rattle.points.specs.declared.Point.{Point}
@@ -22,7 +22,11 @@ originOk x = le (neg billion) x && le x billion
 unfoldable pub stepOk : Float → Bool
 stepOk x = le thousandth x && le x million
 
+unfoldable pub originsOk : Point → Bool
+originsOk p = originOk (p .x) && originOk (p .y) && originOk (p .z)
+
+unfoldable pub stepsOk : Point → Bool
+stepsOk p = stepOk (p .x) && stepOk (p .y) && stepOk (p .z)
+
 unfoldable pub frameOk : Frame → Bool
-frameOk f =
-    originOk (f .origin .x) && originOk (f .origin .y) && originOk (f .origin .z)
-    && stepOk (f .step .x) && stepOk (f .step .y) && stepOk (f .step .z)
+frameOk f = originsOk (f .origin) && stepsOk (f .step)

@@ -1,5 +1,5 @@
 -- The mean of points: one is used unaltered; several are summed from 0.0 in order, then multiplied by 1 / n. Assumes nothing.
-use mathlib.Core.Bool.{Bool, true, false, cond}
+use mathlib.Core.Bool.{cond}
 use mathlib.Core.List.{List, [], _∷_}
 use Prim.Native.Nat.{ℕ, _+_}
 use lib.Dec.{eqb}

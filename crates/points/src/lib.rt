@@ -6,7 +6,7 @@ ghost use lib.Dec.{T};
 ghost use lib.Ieee.{binary64, inFloat, ofBits, toBits};
 ghost use Rattle.lattice.specs.Sites.{ijkOf};
 ghost use Rattle.points.specs.Positions.{along, position, frameOf};
-ghost use Rattle.points.specs.Limits.{originOk, stepOk, frameOk};
+ghost use Rattle.points.specs.Limits.{originOk, stepOk, originsOk, stepsOk, frameOk};
 ghost use Rattle.points.specs.EdgePoints.{interpolate, edgePoint};
 ghost use Rattle.points.specs.Means.{none, more, meanSum};
 
@@ -52,20 +52,34 @@ fn step_ok(x: f64) -> bool
     if 0.001 <= x { x <= 1.0e6 } else { false }
 }
 
+fn origins_ok(p: Point) -> bool
+    ensures { λ r. ⌜ r ≡ originsOk p ⌝ }
+{
+    if origin_ok(p.x) {
+        if origin_ok(p.y) {
+            return origin_ok(p.z);
+        }
+    }
+    false
+}
+
+fn steps_ok(p: Point) -> bool
+    ensures { λ r. ⌜ r ≡ stepsOk p ⌝ }
+{
+    if step_ok(p.x) {
+        if step_ok(p.y) {
+            return step_ok(p.z);
+        }
+    }
+    false
+}
+
 // The frames that a build takes.
 pub fn frame_ok(frame: Frame) -> bool
     ensures { λ r. ⌜ r ≡ frameOk frame ⌝ }
 {
-    if origin_ok(frame.origin.x) {
-        if origin_ok(frame.origin.y) {
-            if origin_ok(frame.origin.z) {
-                if step_ok(frame.step.x) {
-                    if step_ok(frame.step.y) {
-                        return step_ok(frame.step.z);
-                    }
-                }
-            }
-        }
+    if origins_ok(frame.origin) {
+        return steps_ok(frame.step);
     }
     false
 }
@@ -120,17 +134,14 @@ pub fn edge_point(frame: Frame, a: lattice::Uvw, b: lattice::Uvw, p: f64, q: f64
 pub fn no_points() -> Sum
     ensures { λ r. ⌜ r ≡ none ⌝ }
 {
+    let zeros = Point {
+        x: 0.0,
+        y: 0.0,
+        z: 0.0,
+    };
     Sum {
-        last: Point {
-            x: 0.0,
-            y: 0.0,
-            z: 0.0,
-        },
-        total: Point {
-            x: 0.0,
-            y: 0.0,
-            z: 0.0,
-        },
+        last: zeros,
+        total: zeros,
         count: 0,
     }
 }

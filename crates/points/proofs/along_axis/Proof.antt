@@ -6,14 +6,10 @@ use mir.ValLaws.{toZ-ofZ}
 use borrow.Author.Needs.{needs}
 use Rattle.points.proofs.along_axis.Statement.{statement}
 use Rattle.points.proofs.along_axis.Tie as tie
-use Rattle.points.proofs.along_axis.Reads as reads
-use Rattle.points.proofs.along_axis.Lts as lts
 
--- src/lib.rt:78:15
 int-to-float-result : tie.Need-int-to-float-result
 int-to-float-result c = search needs
 
--- src/lib.rt:74:1
 returns : tie.Need-returns
 unfolding along
 returns c = ap (along (c .before .args .origin) (c .before .args .step)) (toZ-ofZ w64 (c .before .args .i) (c .before .fits .i))

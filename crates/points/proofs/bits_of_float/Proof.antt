@@ -1,5 +1,5 @@
 -- `points::bits_of_float` meets its contract. Assumes nothing.
-use mathlib.Core.Path.{_≡_, sym, ap, _∙_}
+use mathlib.Core.Path.{sym, ap, _∙_}
 use lib.Ieee.{binary64, toBits}
 use lib.Ieee.Compare.{differs-from-itself}
 use Rattle.laws.proofs.Bools.{true-T}
@@ -7,18 +7,13 @@ use Rattle.points.proofs.Bits.{nan-pattern, same-number}
 use borrow.Author.Needs.{needs}
 use Rattle.points.proofs.bits_of_float.Statement.{statement}
 use Rattle.points.proofs.bits_of_float.Tie as tie
-use Rattle.points.proofs.bits_of_float.Reads as reads
-use Rattle.points.proofs.bits_of_float.Lts as lts
 
--- src/lib.rt:186:9
 returns : tie.Need-returns
 returns c = sym (ap (toBits binary64) (differs-from-itself (c .before .args .x) (true-T _ (c .if1 .taken))) ∙ nan-pattern)
 
--- src/lib.rt:188:5
 float-to-bits-result : tie.Need-float-to-bits-result
 float-to-bits-result c = same-number (c .before .args .x) (c .if1 .left)
 
--- src/lib.rt:182:1
 returns-2 : tie.Need-returns-2
 returns-2 c = search needs
 

@@ -1,23 +1,17 @@
 -- `points::edge_point` meets its contract. Assumes nothing.
-use mathlib.Core.Path.{_≡_, sym, ap, _∙_}
-use mathlib.Core.Bool.{Bool, true, false}
+use mathlib.Core.Path.{_≡_, sym, _∙_}
+use mathlib.Core.Bool.{true}
 use lib.Ieee.{Float}
 use Rattle.sides.specs.Sides.{finite, pointFraction}
 use Rattle.lattice.specs.declared.Ijk.{Ijk}
 use Rattle.points.specs.declared.Point.{Point}
 use Rattle.points.specs.declared.Frame.{Frame}
-use Rattle.points.specs.declared.EdgePoint.the-variants.{Missing, At}
+use Rattle.points.specs.declared.EdgePoint.the-variants.{At}
 use Rattle.points.specs.Positions.{position}
 use Rattle.points.specs.EdgePoints.{interpolate, edgePoint}
 use borrow.Author.Needs.{needs}
 use Rattle.points.proofs.edge_point.Statement.{statement}
 use Rattle.points.proofs.edge_point.Tie as tie
-use Rattle.points.proofs.edge_point.Reads as reads
-use Rattle.points.proofs.edge_point.Lts as lts
-use Rattle.points.proofs.interpolate_points.Reads as interpolate-points-reads
-use Rattle.points.proofs.position_of.Reads as position-of-reads
-use Rattle.sides.proofs.is_finite.Reads as is-finite-reads
-use Rattle.sides.proofs.point_fraction.Reads as point-fraction-reads
 
 met : (f : Frame) (a b : Ijk) (p q : Float) (x y : Point) (t : Float) (r : Point) → finite p ≡ true → finite q ≡ true
     → x ≡ position f a → y ≡ position f b → t ≡ pointFraction p q → r ≡ interpolate x y t → At r ≡ edgePoint f a b p q
@@ -27,39 +21,31 @@ met f a b p q x y t r g h d e k m = rw (g, h, m, d, e, k)
 is-finite-requires : tie.Need-is-finite-requires
 is-finite-requires c κs = search needs
 
--- src/lib.rt:110:12
 is-finite-requires-2 : tie.Need-is-finite-requires-2
 is-finite-requires-2 c κs = search needs
 
--- src/lib.rt:111:17
 position-of-requires : tie.Need-position-of-requires
 position-of-requires c κs = search needs
 
--- src/lib.rt:112:17
 position-of-requires-2 : tie.Need-position-of-requires-2
 position-of-requires-2 c κs = search needs
 
--- src/lib.rt:113:17
 point-fraction-requires : tie.Need-point-fraction-requires
 point-fraction-requires c κs = search needs
 
--- src/lib.rt:114:34
 interpolate-points-requires : tie.Need-interpolate-points-requires
 interpolate-points-requires c κs = search needs
 
--- src/lib.rt:114:13
 returns : tie.Need-returns
 returns c =
     let k = c .before .before .before .before in
     met _ _ _ _ _ _ _ _ _ (sym (k .before .before .before .is-finite .ensures) ∙ k .before .before .if1 .taken) (sym (k .before .is-finite2 .ensures) ∙ k .if2 .taken)
     (c .before .before .before .position-of .ensures) (c .before .before .position-of2 .ensures) (c .before .point-fraction .ensures) (c .interpolate-points .ensures)
 
--- src/lib.rt:105:1
 returns-2 : tie.Need-returns-2
 unfolding edgePoint
 returns-2 c = rw (← c .before .before .before .is-finite .ensures, c .before .before .if1 .taken, ← c .before .is-finite2 .ensures, c .if2 .left)
 
--- src/lib.rt:105:1
 returns-3 : tie.Need-returns-3
 unfolding edgePoint
 returns-3 c = rw (← c .before .is-finite .ensures, c .if1 .left)

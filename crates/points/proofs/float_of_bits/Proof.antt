@@ -9,21 +9,16 @@ use Rattle.points.proofs.Bits.{only-nan, zero-over-zero}
 use borrow.Author.Needs.{needs}
 use Rattle.points.proofs.float_of_bits.Statement.{statement}
 use Rattle.points.proofs.float_of_bits.Tie as tie
-use Rattle.points.proofs.float_of_bits.Reads as reads
-use Rattle.points.proofs.float_of_bits.Lts as lts
 
--- src/lib.rt:176:9
 returns : tie.Need-returns
 returns c =
     let n = c .before .args .n in
     zero-over-zero
     ∙ sym (only-nan (ofBits binary64 n) (subst T (sym (sym (nanBits-is binary64 n) ∙ nanBits-above binary64 n ∙ lt-ltb _ _ (c .if1 .taken))) tt))
 
--- src/lib.rt:178:5
 float-from-bits-result : tie.Need-float-from-bits-result
 float-from-bits-result c = subst (λ (b : Bool). T (not b)) (sym (nanBits-above binary64 (c .before .args .n) ∙ le-ltb _ _ (c .if1 .left))) tt
 
--- src/lib.rt:171:1
 returns-2 : tie.Need-returns-2
 returns-2 c = search needs
 

@@ -3,10 +3,7 @@ use Rattle.points.specs.EdgePoints.{interpolate}
 use mathlib.Core.Path.{refl}
 use Rattle.points.proofs.interpolate_points.Statement.{statement}
 use Rattle.points.proofs.interpolate_points.Tie as tie
-use Rattle.points.proofs.interpolate_points.Reads as reads
-use Rattle.points.proofs.interpolate_points.Lts as lts
 
--- src/lib.rt:94:1
 returns : tie.Need-returns
 unfolding interpolate
 returns c = refl

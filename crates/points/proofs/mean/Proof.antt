@@ -4,19 +4,14 @@ use borrow.Author.Tests.{eq-eqb, ne-eqb}
 use borrow.Author.Needs.{needs}
 use Rattle.points.proofs.mean.Statement.{statement}
 use Rattle.points.proofs.mean.Tie as tie
-use Rattle.points.proofs.mean.Reads as reads
-use Rattle.points.proofs.mean.Lts as lts
 
--- src/lib.rt:160:9
 returns : tie.Need-returns
 unfolding meanSum
 returns c = rw (eq-eqb _ _ (c .before .if1 .taken))
 
--- src/lib.rt:162:24
 int-to-float-share : tie.Need-int-to-float-share
 int-to-float-share c = search needs
 
--- src/lib.rt:155:1
 returns-2 : tie.Need-returns-2
 unfolding meanSum
 returns-2 c = rw (ne-eqb _ _ (c .before .before .before .before .if1 .left))

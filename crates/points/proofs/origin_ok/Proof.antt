@@ -3,15 +3,11 @@ use lib.Ieee.{ofBits, ofInt, neg}
 use Rattle.points.specs.Limits.{originOk}
 use Rattle.points.proofs.origin_ok.Statement.{statement}
 use Rattle.points.proofs.origin_ok.Tie as tie
-use Rattle.points.proofs.origin_ok.Reads as reads
-use Rattle.points.proofs.origin_ok.Lts as lts
 
--- src/lib.rt:43:1
 returns : tie.Need-returns
 unfolding originOk ofBits ofInt neg
 returns c = rw (c .if1 .taken)
 
--- src/lib.rt:43:1
 returns-2 : tie.Need-returns-2
 unfolding originOk ofBits ofInt neg
 returns-2 c = rw (c .if1 .left)

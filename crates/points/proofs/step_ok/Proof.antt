@@ -3,15 +3,11 @@ use lib.Ieee.{ofBits, ofInt, round}
 use Rattle.points.specs.Limits.{stepOk}
 use Rattle.points.proofs.step_ok.Statement.{statement}
 use Rattle.points.proofs.step_ok.Tie as tie
-use Rattle.points.proofs.step_ok.Reads as reads
-use Rattle.points.proofs.step_ok.Lts as lts
 
--- src/lib.rt:49:1
 returns : tie.Need-returns
 unfolding stepOk ofBits ofInt round
 returns c = rw (c .if1 .taken)
 
--- src/lib.rt:49:1
 returns-2 : tie.Need-returns-2
 unfolding stepOk ofBits ofInt round
 returns-2 c = rw (c .if1 .left)

@@ -4,14 +4,10 @@ use mathlib.Core.Path.{refl}
 use borrow.Author.Needs.{needs}
 use Rattle.points.proofs.with_point.Statement.{statement}
 use Rattle.points.proofs.with_point.Tie as tie
-use Rattle.points.proofs.with_point.Reads as reads
-use Rattle.points.proofs.with_point.Lts as lts
 
--- src/lib.rt:150:16
 add-t7 : tie.Need-add-t7
 add-t7 c = search needs
 
--- src/lib.rt:139:1
 returns : tie.Need-returns
 unfolding more
 returns c = refl
