@@ -2,7 +2,7 @@
 use Prim.Native.Nat.{ℕ, suc, _+_}
 use native.Mathlib.Nat.{add-zero}
 use native.Mathlib.Omega.{arith}
-use mathlib.Core.Path.{_≡_, refl, sym, _∙_}
+use mathlib.Core.Path.{_≡_, refl, sym, ap, _∙_}
 use mathlib.Core.Bool.{false, cond}
 use mathlib.Core.List.{List, [], _∷_, _++_}
 use lib.ListN.{length}
@@ -25,6 +25,11 @@ gather-count (p ∷ ps) s = gather-count ps (more s p) ∙ omega arith
 gather-more : (ps : List Point) (s : Sum) (p : Point) → gather s (ps ++ p ∷ []) ≡ more (gather s ps) p
 gather-more [] s p = refl
 gather-more (q ∷ ps) s p = gather-more ps (more s q) p
+
+-- one point more is counted
+pub more-count : (s t : Sum) (p : Point) → t ≡ more s p → t .count ≡ s .count + 1
+unfolding more
+more-count s t p e = ap (λ (x : Sum). x .count) e
 
 -- what `no_points`, `with_point` and `mean` answer, over the list of points
 pub sum-none : none ≡ sumOf []
