@@ -2,7 +2,7 @@
 use Prim.Native.Nat.{ℕ, suc, _+_, _*_, _^_, _≤_, _<_}
 use native.Mathlib.Nat.{mul-one, one-mul, le-trans, le-of-eq, mul-le-mul-right}
 use native.Mathlib.Omega.{arith}
-use mathlib.Core.Path.{_≡_, refl, sym, ap, subst}
+use mathlib.Core.Path.{_≡_, refl, sym, ap, subst, _∙_}
 use mathlib.Core.Bool.{Bool, true, false, _&&_, Bool·beq, cond, false≢true}
 use mathlib.Core.List.{List, [], _∷_}
 use lib.IntN.{pos}
@@ -12,7 +12,8 @@ use lib.Ieee.{Float, fin, binary64, low, round, ofInt, ofBits, fits}
 use Rattle.sides.specs.Sides.{finite, inside, pointFraction}
 use Rattle.lattice.specs.declared.Ijk.{Ijk}
 use Rattle.lattice.specs.declared.Uvw.{Uvw}
-use Rattle.lattice.specs.Sites.{ijkOf}
+use Rattle.lattice.specs.declared.Sides.{Sides}
+use Rattle.lattice.specs.Sites.{SidesFit, InBox, ijkOf}
 use Rattle.points.specs.declared.Point.{Point}
 use Rattle.points.specs.declared.Frame.{Frame}
 use Rattle.points.specs.declared.EdgePoint.{EdgePoint}
@@ -20,7 +21,7 @@ use Rattle.points.specs.declared.EdgePoint.the-variants.{Missing, At}
 use Rattle.points.specs.Positions.{position}
 use Rattle.points.specs.Limits.{frameOk}
 use Rattle.points.specs.EdgePoints.{interpolate, edgePoint}
-use Rattle.points.specs.Means.{zeros, one, plus, times, total, share, meanOf}
+use Rattle.points.specs.Means.{zeros, one, plus, times, total, share, meanOf, sumOf, meanSum}
 use Rattle.points.specs.Finite.{finitePoint, hasFinitePoint, Low, OnEdge, AllOnEdges, end, next}
 use Rattle.points.proofs.Sizes.{Under, under-more, under-finite, add-under, mul-under}
 use Rattle.points.proofs.Casts.{ijk-small}
@@ -28,10 +29,16 @@ use Rattle.points.proofs.Limits.{PointUnder, position-under, interpolat
 use Rattle.points.proofs.Gaps.{Units, round-least, fraction-under}
 use Rattle.points.proofs.Fraction.{fraction-under-55}
 use Rattle.points.proofs.Order.{sides-differ}
+use Rattle.points.proofs.Means.{mean-sum}
 
 pub under-finite-point : (p : Point) (k : ℕ) → PointUnder p k → finitePoint p ≡ true
 unfolding finitePoint
 under-finite-point p k h = rw (under-finite (p .x) k (h .x), under-finite (p .y) k (h .y), under-finite (p .z) k (h .z))
+
+-- the sites of a box are low
+pub box-low : (n : Sides) (p : Uvw) → SidesFit n → InBox n p → Low p
+box-low n p f b =
+    record { on-u = omega (arith, b .on-u, f .u-most); on-v = omega (arith, b .on-v, f .v-most); on-w = omega (arith, b .on-w, f .w-most) }
 
 -- ---- a point
 
@@ -151,3 +158,7 @@ all-under f h (c ∷ cs) ok (next o r) = also (edge-under f h c ok o) (all-under
 pub mean-finite : (f : Frame) (h : Float) (cs : List Point) → frameOk f ≡ true → 1 ≤ length cs → length cs ≤ 14 → AllOnEdges f h cs → finitePoint (meanOf cs) ≡ true
 mean-finite f h cs ok some few o =
     under-finite-point (meanOf cs) (88 + length cs) (mean-under cs some (omega arith) (all-under f h cs ok o))
+
+-- the same of what `mean` answers once these points are taken in
+pub mean-sum-finite : (f : Frame) (h : Float) (cs : List Point) → frameOk f ≡ true → 1 ≤ length cs → length cs ≤ 14 → AllOnEdges f h cs → finitePoint (meanSum (sumOf cs)) ≡ true
+mean-sum-finite f h cs ok some few o = ap finitePoint (mean-sum cs) ∙ mean-finite f h cs ok some few o

@@ -44,6 +44,7 @@ pow-of D B h g =
     one-less : (z : ℕ) → 0 < z → suc (z - 1) ≡ z
     one-less z p = omega arith
 
+-- y is at least 2 ^ k units, and P units are at most 2 ^ 55 times as many
 pub record Near (y : Float) (P : ℕ) : Type 0 where
   pub k : ℕ
   pub least : Least binary64 y k
@@ -65,9 +66,9 @@ near s a c D P C h p g w =
     twice : (x : ℕ) → 2 ^ 54 * (x * 2) ≡ 2 ^ 55 * x
     twice x = omega arith
 
--- ---- the difference
-lift : (x u d e P L : ℕ) → x * L ≡ P * e → x * d * L ≡ P * (e * d)
-lift x u d e P L h = mul-right-comm x d L ∙ ap (λ z. z * d) h ∙ mul-assoc P e d
+-- ---- the difference of two values that differ is near enough to the first
+lift : (x d e P L : ℕ) → x * L ≡ P * e → x * d * L ≡ P * (e * d)
+lift x d e P L h = mul-right-comm x d L ∙ ap (λ z. z * d) h ∙ mul-assoc P e d
 
 diff : (a b P Q c L : ℕ) → 0 < c → 0 < L → a * L ≡ P * c → b * L ≡ Q * c → a < b → (P < Q) × ((Q - P) * c ≤ (b - a) * L)
 diff a b P Q c L C K h g l =
@@ -113,8 +114,8 @@ module _ (s t : Bool) (m : ℕ) (e : ℤ) (n : ℕ) (d : ℤ) (u : Units binary6
       let c = down e * down d in
       let C : 0 < c = mul-pos (down-pos e) (down-pos d) in
       let K : 0 < L = pow-pos (low binary64) in
-      let ea : a * L ≡ P * c = lift (m * up e) 0 (down d) (down e) P L (u .is) in
-      let eb : b * L ≡ Q * c = lift (n * up d) 0 (down e) (down d) Q L (v .is) ∙ ap (λ z. Q * z) (mul-comm (down d) (down e)) in
+      let ea : a * L ≡ P * c = lift (m * up e) (down d) (down e) P L (u .is) in
+      let eb : b * L ≡ Q * c = lift (n * up d) (down e) (down d) Q L (v .is) ∙ ap (λ z. Q * z) (mul-comm (down d) (down e)) in
       near-cond (Bool·beq s (not t)) (round binary64 s (a + b) c) (cond (ltb a b) (round binary64 (not t) (b - a) c) (round binary64 (s && ltb b a) (a - b) c)) P
       (λ _.
       let w : (a + b) * L ≡ P * c + Q * c = add-mul a b L ∙ rw (ea, eb) in

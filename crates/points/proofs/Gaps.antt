@@ -86,7 +86,7 @@ multiples g x y h = elim (lt-or x (suc y)) [
 scaled : (m i j : ℕ) → i ≤ j → m * 2 ^ j ≡ m * 2 ^ (j - i) * 2 ^ i
 scaled m i j h = ap (λ z. m * 2 ^ z) (sym (back j i h)) ∙ ap (λ z. m * z) (pow-add 2 (j - i) i) ∙ sym (mul-assoc m (2 ^ (j - i)) (2 ^ i))
 
--- x above y: the larger is at most 2 ^ (p + 1) times the difference
+-- the larger of two is at most 2 ^ p + 1 times the difference
 pub gap-up : (p m i n j : ℕ) → m < 2 ^ p → n < 2 ^ p → n * 2 ^ j < m * 2 ^ i → m * 2 ^ i ≤ (2 ^ p + 1) * (m * 2 ^ i - n * 2 ^ j)
 gap-up p m i n j a b h = elim (lt-or j i) [
   | inr t ↦
@@ -112,7 +112,7 @@ gap-up p m i n j a b h = elim (lt-or j i) [
     both : (x y p d : ℕ) → y ≤ p * d → d ≡ x - y → x ≤ (p + 1) * d
     both x y p d h e = rw add-mul (omega arith)
 
--- x below y: x is at most 2 ^ p times the difference, or so
+-- and so is the smaller
 pub gap-down : (p m i n j : ℕ) → m < 2 ^ p → n < 2 ^ p → m * 2 ^ i < n * 2 ^ j → m * 2 ^ i ≤ (2 ^ p + 1) * (n * 2 ^ j - m * 2 ^ i)
 gap-down p m i n j a b h = le-trans (le-of-lt h) (gap-up p n j m i b a h)
 
