@@ -1,4 +1,4 @@
--- The sign goes through rounding. Assumes nothing.
+-- The sign goes through rounding, and rounding without a sign gives nothing negative. Assumes nothing.
 use Prim.Native.Nat.{ℕ, zero, suc, _+_, _*_, _^_}
 use mathlib.Core.Path.{_≡_, refl}
 use mathlib.Core.Bool.{Bool, true, false, not, cond}
