@@ -1,0 +1,11 @@
+-- The laws of points: how rounding keeps signs and sizes, the fraction of a point, sums of points, and that points and means are finite.
+pub mod Rounding
+pub mod Sizes
+pub mod Casts
+pub mod Limits
+pub mod Gaps
+pub mod Fraction
+pub mod Order
+pub mod Means
+pub mod Finite
+pub mod Bits

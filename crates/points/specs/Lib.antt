@@ -1,0 +1,7 @@
+-- The frame and its limits, positions, points on edges, means, what a finite point is, and examples.
+pub mod Positions
+pub mod Limits
+pub mod EdgePoints
+pub mod Means
+pub mod Finite
+pub mod Examples
