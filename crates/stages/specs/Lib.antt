@@ -1,0 +1,7 @@
+-- A build as one list of vertices: the box it is over, the vertices, the split, the rounds, and the lists it leaves.
+pub mod Boxes
+pub mod Vertices
+pub mod Meshes
+pub mod Splits
+pub mod Rounds
+pub mod Samples
