@@ -160,6 +160,15 @@ module _ {A : Type 0} where
   all-map P Q f [] a = tt
   all-map P Q f (x ∷ xs) a = (f x (a .0), all-map P Q f xs (a .1))
 
+  pub all-keep : (p : A → Bool) (xs : List A) → All (λ x. p x ≡ true) (keep p xs)
+  unfolding All keep
+  all-keep p [] = tt
+  all-keep p (x ∷ xs) = go (p x) refl (all-keep p xs)
+    where
+      go : (c : Bool) → p x ≡ c → All (λ y. p y ≡ true) (keep p xs) → All (λ y. p y ≡ true) (cond c (x ∷ keep p xs) (keep p xs))
+      go true e a = (e, a)
+      go false e a = a
+
   pub all-index : (d : A) (P : A → Type 0) (l : List A) → ((k : ℕ) → k < length l → P (getD l k d)) → All P l
   unfolding All
   all-index d P [] f = tt

@@ -10,8 +10,9 @@ use native.Mathlib.Omega.{arith}
 use lib.Dec.{T, eqb, eqb→eq}
 use lib.ListN.{length, length-append}
 use Rattle.laws.specs.Ranges.{fold, each, any, all}
-use Rattle.laws.specs.Lists.{joined}
+use Rattle.laws.specs.Lists.{joined, All}
 use Rattle.laws.proofs.Bools.{and-left, and-right, beq→eq}
+use Rattle.laws.proofs.Lists.{all-append}
 
 -- ---- cases on two numbers
 
@@ -110,6 +111,11 @@ module _ {A : Type 0} where
   unfolding each
   each-rows zero n f = rw zero-mul
   each-rows (suc m) n f = rw (suc-mul, each-add (m * n) n f, each-rows m n f)
+
+  pub all-each : (P : A → Type 0) (n : ℕ) (f : ℕ → List A) → ((i : ℕ) → All P (f i)) → All P (each n f)
+  unfolding each All
+  all-each P zero f h = tt
+  all-each P (suc n) f h = all-append P (each n f) (f n) (all-each P n f h) (h n)
 
 -- ---- tests at every number below a bound
 

@@ -1,5 +1,6 @@
 -- Laws of sums over the numbers below a bound. Assumes nothing.
 use mathlib.Core.Path.{_≡_, refl, sym, ap, ap₂, _∙_}
+use mathlib.Core.Bool.{Bool}
 use mathlib.Core.Logic.{⊎-elim}
 use mathlib.Core.List.{List}
 use Prim.Native.Nat.{ℕ, zero, suc, _+_, _-_, _*_, _≤_, _<_}
@@ -7,9 +8,9 @@ use native.Mathlib.Nat.{add-zero, zero-add, add-suc, add-assoc, add-comm, suc-mu
 use native.Mathlib.Numerals.{add-one}
 use native.Mathlib.Omega.{arith}
 use Rattle.laws.specs.Ranges.{sum, each}
-use Rattle.laws.specs.Lists.{total}
+use Rattle.laws.specs.Lists.{total, count}
 use Rattle.laws.proofs.Ranges.{lt-or}
-use Rattle.laws.proofs.Lists.{total-append}
+use Rattle.laws.proofs.Lists.{total-append, count-append}
 
 pub sum-none : (f : ℕ → ℕ) → sum 0 f ≡ 0
 unfolding sum
@@ -83,8 +84,13 @@ sum-shift f g o n low mid high =
         ∙ rw (sum-zero o (λ k. f (n - o + k)) (λ k b. high (n - o + k) (omega arith) (omega arith)), add-zero) in
         first ∙ sym second
 
--- a sum over joined lists
+-- a sum, and a count, over joined lists
 pub each-total : {A : Type 0} (W : A → ℕ) (n : ℕ) (f : ℕ → List A) → total W (each n f) ≡ sum n (λ i. total W (f i))
 unfolding each sum total
 each-total W zero f = refl
 each-total W (suc n) f = total-append W (each n f) (f n) ∙ ap (λ (x : ℕ). x + total W (f n)) (each-total W n f)
+
+pub each-count : {A : Type 0} (p : A → Bool) (n : ℕ) (f : ℕ → List A) → count p (each n f) ≡ sum n (λ i. count p (f i))
+unfolding each sum count
+each-count p zero f = refl
+each-count p (suc n) f = count-append p (each n f) (f n) ∙ ap (λ (x : ℕ). x + count p (f n)) (each-count p n f)

@@ -1,0 +1,3 @@
+-- The balance of the march, and what follows from it.
+pub mod Boxes
+pub mod Cells
