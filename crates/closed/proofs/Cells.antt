@@ -1,21 +1,24 @@
 -- One cell, by tests computed at all 256 sides of its corners: its triangles close up with the segments on its faces, and all their corners are crossed edges. Assumes nothing.
 use mathlib.Core.Path.{_≡_, refl, sym, ap, ap₂, _∙_}
-use mathlib.Core.Bool.{Bool, true, false, not, _&&_, _||_, Bool·beq}
+use mathlib.Core.Bool.{Bool, true, false, not, _&&_, _||_, Bool·beq, true≢false}
 use mathlib.Core.List.{List, [], _∷_, _++_, map}
 use Prim.Native.Nat.{ℕ, zero, suc, _+_, _*_, _/_, _%_, _<_}
 use native.Mathlib.Omega.{arith}
 use lib.Dec.{T, eqb, ltb}
 use lib.ListN.{length, getD}
 use Rattle.laws.specs.Bools.{bit, allBools}
-use Rattle.laws.specs.Ranges.{each, all}
-use Rattle.laws.specs.Lists.{count}
+use Rattle.laws.specs.Ranges.{each, sum, all}
+use Rattle.laws.specs.Lists.{count, every, All}
 use Rattle.laws.specs.Couples.{Pair, turn, onBoth, fromTo, against, push, left, isNil, cancels}
 use Rattle.laws.proofs.Bools.{bools-at}
-use Rattle.laws.proofs.Lists.{count-append, map-append}
+use Rattle.laws.proofs.Ranges.{each-nil, all-at}
+use Rattle.laws.proofs.Sums.{each-count}
+use Rattle.laws.proofs.Lists.{count-append, map-append, every-all}
 use Rattle.laws.proofs.Couples.{turn-count, onBoth-turn, cancels-even}
 use Rattle.tables.specs.Edges.{cornerOf, labelTo, du, dv, dw}
 use Rattle.tables.specs.Tets.{tetLabel, tetCorner, tetPair, tetPairs, edgeOf, edgeIn}
-use Rattle.tables.specs.Cases.{Tri, sidesOf, mtRow, segment}
+use Rattle.tables.specs.Cases.{Tri, flat, sidesOf, mtRow, segment}
+use Rattle.tables.proofs.Cases.{mt-none, segment-named}
 use Rattle.tets.specs.Cells.{Corners, at, caseOf, tetOk, caseNo, onEach, tetTris, cellTris}
 use Rattle.closed.specs.Faces.{unit, segmentOn, face}
 
@@ -46,3 +49,70 @@ closing side = sidesOf (cellTris always side) ++ map turn (lows side same) ++ hi
 closes : (side : Corners) → length side ≡ 8 → T (cancels (closing side))
 unfolding cellKey closing cancels left push against isNil lows highs face segmentOn segment unit turn
 closes side e = bools-at 8 (λ l. cancels (closing l)) tt side e
+
+-- ---- the same under a naming h of the edges
+
+module _ (h : ℕ → ℕ) where
+  pub sides-named : (ts : List Tri) → map (onBoth h) (sidesOf ts) ≡ sidesOf (map (onEach h) ts)
+  unfolding onBoth onEach sidesOf
+  sides-named [] = refl
+  sides-named (t ∷ ts) = ap {B = List Pair} (λ r. (h (t .0), h (t .1)) ∷ (h (t .1), h (t .2)) ∷ (h (t .2), h (t .0)) ∷ r) (sides-named ts)
+
+  pub face-named : (x : ℕ) (side : Corners) (a : ℕ) → map (onBoth h) (face x side same a) ≡ face x side h a
+  unfolding face segmentOn
+  face-named x side a = simp (map-append, onBoth-turn, segment-named)
+
+  each-named : (n : ℕ) (f : ℕ → List Pair) → map (onBoth h) (each n f) ≡ each n (λ x. map (onBoth h) (f x))
+  unfolding each
+  each-named zero f = refl
+  each-named (suc n) f = map-append (onBoth h) (each n f) (f n) ∙ ap (λ (l : List Pair). l ++ map (onBoth h) (f n)) (each-named n f)
+
+  closing-named : (side : Corners)
+      → map (onBoth h) (closing side)
+      ≡ sidesOf (map (onEach h) (cellTris always side)) ++ map turn (each 3 (λ x. face x side h 0)) ++ each 3 (λ x. face x side h (unit x))
+  unfolding closing lows highs
+  closing-named side = simp (map-append, onBoth-turn, sides-named, each-named, face-named)
+
+  -- The directed sides of a cell's triangles, p to q less q to p: as many as on its low faces less those on its high faces.
+  pub cell-even : (side : Corners) → length side ≡ 8 → (p q : ℕ)
+      → count (fromTo p q) (sidesOf (map (onEach h) (cellTris always side)))
+      + sum 3 (λ x. count (fromTo q p) (face x side h 0)) + sum 3 (λ x. count (fromTo p q) (face x side h (unit x)))
+      ≡ count (fromTo q p) (sidesOf (map (onEach h) (cellTris always side)))
+      + sum 3 (λ x. count (fromTo p q) (face x side h 0)) + sum 3 (λ x. count (fromTo q p) (face x side h (unit x)))
+  cell-even side e p q =
+      omega (arith, simp (closing-named, count-append, turn-count, each-count) at (cancels-even h p q (closing side) (closes side e)))
+
+-- ---- the edges that the triangles join
+
+-- edge e of the cell leads from a corner c up to the corner c + k, axis by axis, and the two are on different sides
+unfoldable pub crossedIn : Corners → ℕ → Bool
+crossedIn l e =
+    let c = e / 7 in
+    let k = cornerOf (e % 7) in
+    eqb (du c + du k) (du (c + k)) && eqb (dv c + dv k) (dv (c + k)) && eqb (dw c + dw k) (dw (c + k)) && ltb (c + k) 8
+    && not (Bool·beq (at l c) (at l (c + k)))
+
+crossed-test : (side : Corners) → length side ≡ 8 → T (every (crossedIn side) (flat (cellTris always side)))
+unfolding cellKey every crossedIn flat
+crossed-test side e = bools-at 8 (λ l. every (crossedIn l) (flat (cellTris always l))) tt side e
+
+pub cell-crossed : (side : Corners) → length side ≡ 8 → All (λ e. crossedIn side e ≡ true) (flat (cellTris always side))
+cell-crossed side e = every-all (crossedIn side) (flat (cellTris always side)) (crossed-test side e)
+
+-- ---- no triangles where the highest corner is missing, or where all corners are on one side
+
+missing-test : (ok : Corners) → length ok ≡ 8 → T (all 6 (λ t. at ok 7 || not (tetOk ok t)))
+unfolding cellKey
+missing-test ok e = bools-at 8 (λ l. all 6 (λ t. at l 7 || not (tetOk l t))) tt ok e
+
+pub cell-missing : (ok side : Corners) → length ok ≡ 8 → at ok 7 ≡ false → cellTris ok side ≡ []
+unfolding cellTris tetTris caseNo
+cell-missing ok side e h = each-nil 6 (tetTris ok side) (λ t l. rw (none t l, mt-none))
+  where
+    go : (a b : Bool) → a ≡ false → T (a || not b) → b ≡ false
+    go true b e t = absurd (true≢false e)
+    go false true e t = absurd t
+    go false false e t = refl
+
+    none : (t : ℕ) → t < 6 → tetOk ok t ≡ false
+    none t l = go (at ok 7) (tetOk ok t) h (all-at 6 (λ t. at ok 7 || not (tetOk ok t)) (missing-test ok e) t l)

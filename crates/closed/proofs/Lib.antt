@@ -1,3 +1,4 @@
 -- The balance of the march, and what follows from it.
 pub mod Boxes
 pub mod Cells
+pub mod Triangles
