@@ -2,3 +2,5 @@
 pub mod Boxes
 pub mod Cells
 pub mod Triangles
+pub mod Telescope
+pub mod Sites
