@@ -4,3 +4,4 @@ pub mod Cells
 pub mod Triangles
 pub mod Telescope
 pub mod Sites
+pub mod Balance

@@ -75,7 +75,7 @@ module _ (S : ℕ → ℕ → ℕ → Bool) (G : ℕ → ℕ → ℕ → ℕ →
   weight : ℕ → ℕ → ℕ → ℕ
   weight u v w = cellRuns S G p q u v w + sum 3 (λ x. faceRuns S G q p x u v w) + sum 3 (λ x. above (unit x) (faceRuns S G p q x) u v w)
 
-corners-8 : (S : ℕ → ℕ → ℕ → Bool) (u v w : ℕ) → length (cornersOf S u v w) ≡ 8
+pub corners-8 : (S : ℕ → ℕ → ℕ → Bool) (u v w : ℕ) → length (cornersOf S u v w) ≡ 8
 unfolding cornersOf
 corners-8 S u v w = refl
 
