@@ -5,3 +5,5 @@ pub mod Triangles
 pub mod Telescope
 pub mod Sites
 pub mod Balance
+pub mod Numbered
+pub mod Examples
