@@ -5,6 +5,7 @@ use native.Mathlib.Omega.{arith}
 use Rattle.laws.specs.Ranges.{sum}
 use Rattle.laws.proofs.Sums.{sum-same, sum-zero, sum-plus, sum-next}
 use Rattle.tables.specs.Edges.{du, dv, dw}
+use Rattle.tables.proofs.Edges.{steps-lt}
 use Rattle.lattice.specs.Sites.{step}
 use Rattle.closed.specs.Faces.{unit}
 
@@ -13,6 +14,16 @@ unfoldable pub on : ℕ → ℕ → ℕ → ℕ → ℕ
 on zero u v w = u
 on (suc zero) u v w = v
 on (suc (suc x)) u v w = w
+
+-- how far corner c of a cell lies along axis x: 0 or 1
+unfoldable pub stepOn : ℕ → ℕ → ℕ
+stepOn x c = on x (du c) (dv c) (dw c)
+
+pub stepOn-lt : (x c : ℕ) → stepOn x c < 2
+unfolding stepOn on
+stepOn-lt zero c = steps-lt c .0
+stepOn-lt (suc zero) c = steps-lt c .1
+stepOn-lt (suc (suc x)) c = steps-lt c .2
 
 -- f at corner c of the cell at (u, v, w)
 unfoldable pub above : {A : Type 0} → ℕ → (ℕ → ℕ → ℕ → A) → ℕ → ℕ → ℕ → A

@@ -4,14 +4,15 @@ use mathlib.Core.Bool.{Bool, true, false, not, _&&_, _||_, Bool·beq, true≢fal
 use mathlib.Core.List.{List, [], _∷_, _++_, map}
 use Prim.Native.Nat.{ℕ, zero, suc, _+_, _*_, _/_, _%_, _<_}
 use native.Mathlib.Omega.{arith}
+use borrow.Author.Tests.{ltb-true}
 use lib.Dec.{T, eqb, ltb}
 use lib.ListN.{length, getD}
 use Rattle.laws.specs.Bools.{bit, allBools}
 use Rattle.laws.specs.Ranges.{each, sum, all}
 use Rattle.laws.specs.Lists.{count, every, All}
 use Rattle.laws.specs.Couples.{Pair, turn, onBoth, fromTo, against, push, left, isNil, cancels}
-use Rattle.laws.proofs.Bools.{bools-at}
-use Rattle.laws.proofs.Ranges.{each-nil, all-at}
+use Rattle.laws.proofs.Bools.{bools-at, and-apart, true-T}
+use Rattle.laws.proofs.Ranges.{each-nil, all-at, same-at}
 use Rattle.laws.proofs.Sums.{each-count}
 use Rattle.laws.proofs.Lists.{count-append, map-append, every-all}
 use Rattle.laws.proofs.Couples.{turn-count, onBoth-turn, cancels-even}
@@ -21,6 +22,7 @@ use Rattle.tables.specs.Cases.{Tri, flat, sidesOf, mtRow, segment}
 use Rattle.tables.proofs.Cases.{mt-none, segment-named}
 use Rattle.tets.specs.Cells.{Corners, at, caseOf, tetOk, caseNo, onEach, tetTris, cellTris}
 use Rattle.closed.specs.Faces.{unit, segmentOn, face}
+use Rattle.closed.proofs.Boxes.{on, stepOn}
 
 -- all corners are there
 unfoldable pub always : Corners
@@ -89,11 +91,30 @@ unfoldable pub crossedIn : Corners → ℕ → Bool
 crossedIn l e =
     let c = e / 7 in
     let k = cornerOf (e % 7) in
-    eqb (du c + du k) (du (c + k)) && eqb (dv c + dv k) (dv (c + k)) && eqb (dw c + dw k) (dw (c + k)) && ltb (c + k) 8
-    && not (Bool·beq (at l c) (at l (c + k)))
+    all 3 (λ x. eqb (stepOn x c + stepOn x k) (stepOn x (c + k))) && ltb (c + k) 8 && not (Bool·beq (at l c) (at l (c + k)))
+
+-- what the test says
+pub record CrossedIn (l : Corners) (e : ℕ) : Type 0 where
+  pub steps : (x : ℕ) → x < 3 → stepOn x (e / 7) + stepOn x (cornerOf (e % 7)) ≡ stepOn x (e / 7 + cornerOf (e % 7))
+  pub inside : e / 7 + cornerOf (e % 7) < 8
+  pub apart : not (Bool·beq (at l (e / 7)) (at l (e / 7 + cornerOf (e % 7)))) ≡ true
+
+pub crossed-in : (l : Corners) (e : ℕ) → crossedIn l e ≡ true → CrossedIn l e
+unfolding crossedIn
+crossed-in l e h =
+    let c = e / 7 in
+    let k = cornerOf (e % 7) in
+    let a = all 3 (λ x. eqb (stepOn x c + stepOn x k) (stepOn x (c + k))) in
+    let r = and-apart (a && ltb (c + k) 8) (not (Bool·beq (at l c) (at l (c + k)))) h in
+    let s = and-apart a (ltb (c + k) 8) (r .0) in
+    record {
+      steps = same-at 3 (λ x. stepOn x c + stepOn x k) (λ x. stepOn x (c + k)) (true-T a (s .0));
+      inside = ltb-true (c + k) 8 (s .1);
+      apart = r .1;
+    }
 
 crossed-test : (side : Corners) → length side ≡ 8 → T (every (crossedIn side) (flat (cellTris always side)))
-unfolding cellKey every crossedIn flat
+unfolding cellKey every crossedIn flat stepOn on
 crossed-test side e = bools-at 8 (λ l. every (crossedIn l) (flat (cellTris always l))) tt side e
 
 pub cell-crossed : (side : Corners) → length side ≡ 8 → All (λ e. crossedIn side e ≡ true) (flat (cellTris always side))

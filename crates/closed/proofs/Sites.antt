@@ -14,7 +14,6 @@ use Rattle.laws.proofs.Bools.{and-apart, and-yes}
 use Rattle.laws.proofs.Ranges.{each-same}
 use Rattle.tables.specs.Edges.{cornerOf, du, dv, dw}
 use Rattle.tables.specs.Cases.{Tri, flat}
-use Rattle.tables.proofs.Edges.{steps-lt}
 use Rattle.lattice.specs.declared.Sides.{Sides}
 use Rattle.lattice.specs.declared.Uvw.{Uvw}
 use Rattle.lattice.specs.Sites.{inBox, InBox, siteOf, atEnd, onBorder, step}
@@ -24,8 +23,8 @@ use Rattle.tets.specs.Cells.{Corners, at, onEach, cellTris}
 use Rattle.tets.specs.March.{Field, none, okAt, sideAt, vertexAt, cornersOf, vertexIn, resolved, proper, emitted, siteTris, slab, march}
 use Rattle.tets.specs.Runs.{crossed}
 use Rattle.closed.specs.Fit.{Fit}
-use Rattle.closed.proofs.Boxes.{on, above}
-use Rattle.closed.proofs.Cells.{always, cellKey, crossedIn, cell-crossed, cell-missing}
+use Rattle.closed.proofs.Boxes.{on, stepOn, stepOn-lt, above}
+use Rattle.closed.proofs.Cells.{always, cellKey, crossedIn, CrossedIn, crossed-in, cell-crossed, cell-missing}
 use Rattle.closed.proofs.Telescope.{cellAt, cellsOf, corners-8}
 
 -- ---- corners
@@ -74,49 +73,19 @@ at-corner S u v w (suc (suc (suc (suc (suc (suc (suc (suc c)))))))) h = absurd (
 pub step-step : (d d′ u : ℕ) → d + d′ < 2 → step d′ (step d u) ≡ step (d + d′) u
 step-step d d′ u h = omega (arith, step-add d u (omega arith), step-add d′ (step d u) (omega arith), step-add (d + d′) u h)
 
--- what the test of an edge says
-pub record CrossedIn (l : Corners) (e : ℕ) : Type 0 where
-  pub on-u : du (e / 7) + du (cornerOf (e % 7)) ≡ du (e / 7 + cornerOf (e % 7))
-  pub on-v : dv (e / 7) + dv (cornerOf (e % 7)) ≡ dv (e / 7 + cornerOf (e % 7))
-  pub on-w : dw (e / 7) + dw (cornerOf (e % 7)) ≡ dw (e / 7 + cornerOf (e % 7))
-  pub inside : e / 7 + cornerOf (e % 7) < 8
-  pub apart : not (Bool·beq (at l (e / 7)) (at l (e / 7 + cornerOf (e % 7)))) ≡ true
-
-pub crossed-in : (l : Corners) (e : ℕ) → crossedIn l e ≡ true → CrossedIn l e
-unfolding crossedIn
-crossed-in l e h =
-    let c = e / 7 in
-    let k = cornerOf (e % 7) in
-    let x = eqb (du c + du k) (du (c + k)) in
-    let y = eqb (dv c + dv k) (dv (c + k)) in
-    let z = eqb (dw c + dw k) (dw (c + k)) in
-    let r = and-apart (x && y && z && ltb (c + k) 8) (not (Bool·beq (at l c) (at l (c + k)))) h in
-    let s = and-apart (x && y && z) (ltb (c + k) 8) (r .0) in
-    let t = and-apart (x && y) z (s .0) in
-    let a = and-apart x y (t .0) in
-    record {
-      on-u = eqb-true (du c + du k) (du (c + k)) (a .0);
-      on-v = eqb-true (dv c + dv k) (dv (c + k)) (a .1);
-      on-w = eqb-true (dw c + dw k) (dw (c + k)) (t .1);
-      inside = ltb-true (c + k) 8 (s .1);
-      apart = r .1;
-    }
-
 first-lt : (c k n : ℕ) → c + k < n → c < n
 first-lt c k n h = omega arith
 
 -- a step of 0 or 1 twice over, on each axis
 above-above : {A : Type 0} (f : ℕ → ℕ → ℕ → A) (l : Corners) (e : ℕ) → CrossedIn l e → (u v w : ℕ)
     → above (e / 7) (above (cornerOf (e % 7)) f) u v w ≡ above (e / 7 + cornerOf (e % 7)) f u v w
-unfolding above
-above-above f l e g u v w =
-    let c = e / 7 in
-    let k = cornerOf (e % 7) in
-    let b = steps-lt (c + k) in
-    let x : step (du k) (step (du c) u) ≡ step (du (c + k)) u = step-step (du c) (du k) u (omega (arith, g .on-u, b .0)) ∙ ap (λ (d : ℕ). step d u) (g .on-u) in
-    let y : step (dv k) (step (dv c) v) ≡ step (dv (c + k)) v = step-step (dv c) (dv k) v (omega (arith, g .on-v, b .1)) ∙ ap (λ (d : ℕ). step d v) (g .on-v) in
-    let z : step (dw k) (step (dw c) w) ≡ step (dw (c + k)) w = step-step (dw c) (dw k) w (omega (arith, g .on-w, b .2)) ∙ ap (λ (d : ℕ). step d w) (g .on-w) in
-    λ i. f (x i) (y i) (z i)
+unfolding above stepOn on
+above-above f l e g u v w = λ i. f (twice 0 (omega arith) u i) (twice 1 (omega arith) v i) (twice 2 (omega arith) w i)
+  where
+    twice : (x : ℕ) → x < 3 → (n : ℕ) → step (stepOn x (cornerOf (e % 7))) (step (stepOn x (e / 7)) n) ≡ step (stepOn x (e / 7 + cornerOf (e % 7))) n
+    twice x h n =
+        step-step (stepOn x (e / 7)) (stepOn x (cornerOf (e % 7))) n (omega (arith, g .steps x h, stepOn-lt x (e / 7 + cornerOf (e % 7))))
+        ∙ ap (λ (d : ℕ). step d n) (g .steps x h)
 
 crossed-at : (F : Field) (u v w c l : ℕ) → ltb l 7 ≡ true → above c (inBox (F .box)) u v w ≡ true → above c (above (cornerOf l) (inBox (F .box))) u v w ≡ true
     → not (Bool·beq (above c (sideAt F) u v w) (above c (above (cornerOf l) (sideAt F)) u v w)) ≡ true → above c (λ u v w. crossed F u v w l) u v w ≡ true

@@ -161,6 +161,11 @@ module _ {A : Type 0} where
   all-map P Q f [] a = tt
   all-map P Q f (x ∷ xs) a = (f x (a .0), all-map P Q f xs (a .1))
 
+  pub all-of : (P : A → Type 0) → ((x : A) → P x) → (xs : List A) → All P xs
+  unfolding All
+  all-of P f [] = tt
+  all-of P f (x ∷ xs) = (f x, all-of P f xs)
+
   pub all-keep : (p : A → Bool) (xs : List A) → All (λ x. p x ≡ true) (keep p xs)
   unfolding All keep
   all-keep p [] = tt
