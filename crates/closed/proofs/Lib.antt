@@ -5,5 +5,6 @@ pub mod Triangles
 pub mod Telescope
 pub mod Sites
 pub mod Balance
+pub mod Shared
 pub mod Numbered
 pub mod Examples
