@@ -197,16 +197,168 @@ unit-lt : (x : ℕ) → x < 3 → unit x < 8
 unfolding unit all
 unit-lt x h = ltb-true (unit x) 8 (T-true (ltb (unit x) 8) (all-at 3 (λ x. ltb (unit x) 8) tt x h))
 
--- an edge of which each step is that of another and that of the axis
-edge-moved : (x e e′ : ℕ) → x < 3 → e / 7 < 8 → e′ / 7 < 8 → e % 7 ≡ e′ % 7 → ((y : ℕ) → y < 3 → stepOn y (e / 7) ≡ stepOn y (e′ / 7) + stepOn y (unit x)) → e ≡ e′ + 7 * unit x
+corner-0 : (x : ℕ) → stepOn x 0 ≡ 0
+unfolding stepOn on du dv dw
+corner-0 zero = refl
+corner-0 (suc zero) = refl
+corner-0 (suc (suc x)) = refl
+
+-- an edge of which each step is that of another and that of corner c
+edge-moved : (c e e′ : ℕ) → c < 8 → e / 7 < 8 → e′ / 7 < 8 → e % 7 ≡ e′ % 7 → ((y : ℕ) → y < 3 → stepOn y (e / 7) ≡ stepOn y (e′ / 7) + stepOn y c) → e ≡ e′ + 7 * c
 unfolding stepOn on
-edge-moved x e e′ hx h h′ l f =
+edge-moved c e e′ hc h h′ l f =
     omega (
       arith,
       corner-steps (e / 7) h,
       corner-steps (e′ / 7) h′,
-      corner-steps (unit x) (unit-lt x hx),
+      corner-steps c hc,
       f 0 (omega arith),
       f 1 (omega arith),
       f 2 (omega arith),
     )
+
+-- ---- two cells, with a directed pair of each, of the same crossed edges of the box
+
+pub record Meet (S : ℕ → ℕ → ℕ → Bool) (u v w u′ v′ w′ : ℕ) (z z′ : Pair) : Type 0 where
+  pub one : Fine (cornersOf S u v w) z
+  pub other : Fine (cornersOf S u′ v′ w′) z′
+  pub first : (x : ℕ) → x < 3 → step (stepOn x (z .0 / 7)) (on x u v w) ≡ step (stepOn x (z′ .0 / 7)) (on x u′ v′ w′)
+  pub second : (x : ℕ) → x < 3 → step (stepOn x (z .1 / 7)) (on x u v w) ≡ step (stepOn x (z′ .1 / 7)) (on x u′ v′ w′)
+  pub label₀ : z .0 % 7 ≡ z′ .0 % 7
+  pub label₁ : z .1 % 7 ≡ z′ .1 % 7
+
+meet-sym : (S : ℕ → ℕ → ℕ → Bool) (u v w u′ v′ w′ : ℕ) (z z′ : Pair) → Meet S u v w u′ v′ w′ z z′ → Meet S u′ v′ w′ u v w z′ z
+meet-sym S u v w u′ v′ w′ z z′ m = record {
+  one = m .other;
+  other = m .one;
+  first = λ x h. sym (m .first x h);
+  second = λ x h. sym (m .second x h);
+  label₀ = sym (m .label₀);
+  label₁ = sym (m .label₁);
+}
+
+-- the room of a crossed edge in its cell
+crossed-room : (l : Corners) (e : ℕ) → crossedIn l e ≡ true → (x : ℕ) → x < 3 → stepOn x (e / 7) + stepOn x (cornerOf (e % 7)) < 2
+crossed-room l e h x hx = omega (arith, crossed-in l e h .steps x hx, stepOn-lt x (e / 7 + cornerOf (e % 7)))
+
+crossed-lt : (l : Corners) (e : ℕ) → crossedIn l e ≡ true → e / 7 < 8
+crossed-lt l e h = go (e / 7) (cornerOf (e % 7)) (crossed-in l e h .inside)
+  where
+    go : (c k : ℕ) → c + k < 8 → c < 8
+    go c k h = omega arith
+
+step-plus : (x c c′ i i′ : ℕ) → step (stepOn x c) i ≡ step (stepOn x c′) i′ → i + stepOn x c ≡ i′ + stepOn x c′
+step-plus x c c′ i i′ e = sym (step-add (stepOn x c) i (stepOn-lt x c)) ∙ e ∙ step-add (stepOn x c′) i′ (stepOn-lt x c′)
+
+module _ (S : ℕ → ℕ → ℕ → Bool) (u v w u′ v′ w′ : ℕ) (z z′ : Pair) (m : Meet S u v w u′ v′ w′ z z′) where
+  axis : (x : ℕ) → x < 3
+      → Level (on x u v w) (on x u′ v′ w′) (stepOn x (z .0 / 7)) (stepOn x (z′ .0 / 7)) (stepOn x (z .1 / 7)) (stepOn x (z′ .1 / 7))
+        (stepOn x (cornerOf (z .0 % 7))) (stepOn x (cornerOf (z .1 % 7)))
+  axis x h = record {
+    first = step-plus x (z .0 / 7) (z′ .0 / 7) (on x u v w) (on x u′ v′ w′) (m .first x h);
+    second = step-plus x (z .1 / 7) (z′ .1 / 7) (on x u v w) (on x u′ v′ w′) (m .second x h);
+    room-a = crossed-room (cornersOf S u v w) (z .0) (m .one .first) x h;
+    room-a′ = rw (m .label₀) (crossed-room (cornersOf S u′ v′ w′) (z′ .0) (m .other .first) x h);
+    room-b = crossed-room (cornersOf S u v w) (z .1) (m .one .second) x h;
+    room-b′ = rw (m .label₁) (crossed-room (cornersOf S u′ v′ w′) (z′ .1) (m .other .second) x h);
+  }
+
+  -- where the cells are apart on one axis, they are level on the others
+  module _ (x : ℕ) (hx : x < 3) (l : on x u v w < on x u′ v′ w′) where
+    up : Rises (on x u v w) (on x u′ v′ w′) (stepOn x (z .0 / 7)) (stepOn x (z′ .0 / 7)) (stepOn x (z .1 / 7)) (stepOn x (z′ .1 / 7))
+        (stepOn x (cornerOf (z .0 % 7))) (stepOn x (cornerOf (z .1 % 7)))
+    up = rises (axis x hx) l
+
+    above-it : onHigh x z ≡ true
+    above-it = high-if x z (up .is-a) (up .is-b)
+
+    below-it : onLow x z′ ≡ true
+    below-it = low-if x z′ (up .is-a′) (up .is-b′) (rw (m .label₀) at (up .is-ka)) (rw (m .label₁) at (up .is-kb))
+
+    level : (y : ℕ) → y < 3 → x ≢ y → on y u v w ≡ on y u′ v′ w′
+    level y hy n = go (lt-or (on y u v w) (on y u′ v′ w′)) (lt-or (on y u′ v′ w′) (on y u v w))
+      where
+        no : onFace y z ≡ true → ⊥
+        no t = m .one .alone x y hx hy n (high-face x z above-it) t
+
+        go : (on y u v w < on y u′ v′ w′) ⊎ (on y u′ v′ w′ ≤ on y u v w) → (on y u′ v′ w′ < on y u v w) ⊎ (on y u v w ≤ on y u′ v′ w′) → on y u v w ≡ on y u′ v′ w′
+        go (inl k) r = let s = rises (axis y hy) k in absurd (no (high-face y z (high-if y z (s .is-a) (s .is-b))))
+        go (inr k) (inl k′) = let s = rises (level-sym (axis y hy)) k′ in absurd (no (low-face y z (low-if y z (s .is-a′) (s .is-b′) (s .is-ka) (s .is-kb))))
+        go (inr k) (inr k′) = omega arith
+
+    -- so the other cell is the next along the axis, and its pair is the same pair moved
+    record Moved (y : ℕ) : Type 0 where
+      place : on y u′ v′ w′ ≡ step (stepOn y (unit x)) (on y u v w)
+      edge₀ : stepOn y (z .0 / 7) ≡ stepOn y (z′ .0 / 7) + stepOn y (unit x)
+      edge₁ : stepOn y (z .1 / 7) ≡ stepOn y (z′ .1 / 7) + stepOn y (unit x)
+
+    moved : (y : ℕ) → y < 3 → Moved y
+    unfolding bit
+    moved y hy = go (eq-or x y)
+      where
+        go : (x ≡ y) ⊎ (x ≡ y → ⊥) → Moved y
+        go (inl e) =
+            let t : stepOn y (unit x) ≡ 1 = unit-steps x y hx hy ∙ ap bit (eq-eqb x y e) in
+            let s = rw e at up in
+            record {
+              place = omega (arith, t, s, step-add (stepOn y (unit x)) (on y u v w) (stepOn-lt y (unit x)));
+              edge₀ = omega (arith, t, s);
+              edge₁ = omega (arith, t, s);
+            }
+        go (inr n) =
+            let t : stepOn y (unit x) ≡ 0 = unit-steps x y hx hy ∙ ap bit (ne-eqb x y n) in
+            let s = axis y hy in
+            let r = level y hy n in
+            record {
+              place = omega (arith, t, r, step-add (stepOn y (unit x)) (on y u v w) (stepOn-lt y (unit x)));
+              edge₀ = omega (arith, t, s, r);
+              edge₁ = omega (arith, t, s, r);
+            }
+
+    next-pair : z ≡ onBoth (λ e. e + 7 * unit x) z′
+    unfolding onBoth
+    next-pair =
+        ap₂ {C = Pair} (λ (a b : ℕ). (a, b))
+        (edge-moved (unit x) (z .0) (z′ .0) (unit-lt x hx) (crossed-lt (cornersOf S u v w) (z .0) (m .one .first)) (crossed-lt (cornersOf S u′ v′ w′) (z′ .0) (m .other .first))
+        (m .label₀) (λ y hy. moved y hy .edge₀))
+        (edge-moved (unit x) (z .1) (z′ .1) (unit-lt x hx) (crossed-lt (cornersOf S u v w) (z .1) (m .one .second)) (crossed-lt (cornersOf S u′ v′ w′) (z′ .1) (m .other .second))
+        (m .label₁) (λ y hy. moved y hy .edge₁))
+
+    next-cell : cornersOf S u′ v′ w′ ≡ above (unit x) (cornersOf S) u v w
+    unfolding above stepOn on
+    next-cell = λ i. cornersOf S (moved 0 (omega arith) .place i) (moved 1 (omega arith) .place i) (moved 2 (omega arith) .place i)
+
+    -- the pair is a segment of the face between them as the other cell has it, and is none as the one cell has it
+    never : ⊥
+    never =
+        let t : has z′ (face x (above (unit x) (cornersOf S) u v w) same 0) ≡ true = rw next-cell at (m .other .low x hx below-it) in
+        let s = has-moved (λ e. e + 7 * unit x) z′ (face x (above (unit x) (cornersOf S) u v w) same 0) t in
+        let r : has z (face x (cornersOf S u v w) same (unit x)) ≡ true = rw (next-pair, ← face-next S u v w x hx) s in
+        true≢false (sym r ∙ m .one .high x hx above-it)
+
+-- the cells are one, and so are the pairs
+module _ (S : ℕ → ℕ → ℕ → Bool) (u v w u′ v′ w′ : ℕ) (z z′ : Pair) (m : Meet S u v w u′ v′ w′ z z′) where
+  same-place : (x : ℕ) → x < 3 → on x u v w ≡ on x u′ v′ w′
+  same-place x h = go (lt-or (on x u v w) (on x u′ v′ w′)) (lt-or (on x u′ v′ w′) (on x u v w))
+    where
+      go : (on x u v w < on x u′ v′ w′) ⊎ (on x u′ v′ w′ ≤ on x u v w) → (on x u′ v′ w′ < on x u v w) ⊎ (on x u v w ≤ on x u′ v′ w′) → on x u v w ≡ on x u′ v′ w′
+      go (inl l) r = absurd (never S u v w u′ v′ w′ z z′ m x h l)
+      go (inr k) (inl l) = absurd (never S u′ v′ w′ u v w z′ z (meet-sym S u v w u′ v′ w′ z z′ m) x h l)
+      go (inr k) (inr l) = omega arith
+
+  same-edge : (e e′ : ℕ) → e / 7 < 8 → e′ / 7 < 8 → e % 7 ≡ e′ % 7 → ((x : ℕ) → x < 3 → step (stepOn x (e / 7)) (on x u v w) ≡ step (stepOn x (e′ / 7)) (on x u′ v′ w′)) → e ≡ e′
+  same-edge e e′ h h′ l f =
+      let r = edge-moved 0 e e′ (omega arith) h h′ l
+      (λ x hx. omega (arith, step-plus x (e / 7) (e′ / 7) (on x u v w) (on x u′ v′ w′) (f x hx), same-place x hx, corner-0 x)) in
+      omega (arith, r)
+
+  pub meet-once : (u ≡ u′) × (v ≡ v′) × (w ≡ w′) × (z ≡ z′)
+  unfolding on
+  meet-once = (
+    same-place 0 (omega arith),
+    same-place 1 (omega arith),
+    same-place 2 (omega arith),
+    ap₂ {C = Pair} (λ (a b : ℕ). (a, b))
+        (same-edge (z .0) (z′ .0) (crossed-lt (cornersOf S u v w) (z .0) (m .one .first)) (crossed-lt (cornersOf S u′ v′ w′) (z′ .0) (m .other .first)) (m .label₀) (m .first))
+        (same-edge (z .1) (z′ .1) (crossed-lt (cornersOf S u v w) (z .1) (m .one .second)) (crossed-lt (cornersOf S u′ v′ w′) (z′ .1) (m .other .second)) (m .label₁) (m .second)),
+  )
