@@ -1,9 +1,9 @@
--- Sums over a box of cells: term by term, and moved by one along an axis. Assumes nothing.
+-- Sums over a box of cells: term by term, moved by one along an axis, and of one term at the most. Assumes nothing.
 use mathlib.Core.Path.{_≡_, refl, sym, ap, ap₂, _∙_}
-use Prim.Native.Nat.{ℕ, zero, suc, _+_, _<_}
+use Prim.Native.Nat.{ℕ, zero, suc, _+_, _≤_, _<_}
 use native.Mathlib.Omega.{arith}
 use Rattle.laws.specs.Ranges.{sum}
-use Rattle.laws.proofs.Sums.{sum-same, sum-zero, sum-plus, sum-next}
+use Rattle.laws.proofs.Sums.{sum-same, sum-zero, sum-plus, sum-next, sum-pos, sum-one}
 use Rattle.tables.specs.Edges.{du, dv, dw}
 use Rattle.tables.proofs.Edges.{steps-lt}
 use Rattle.lattice.specs.Sites.{step}
@@ -66,3 +66,22 @@ module _ (a b c : ℕ) where
       next-same c (λ w. sum b (λ v. sum a (λ u. f u v w)))
       (sum-zero b _ (λ v lv. sum-zero a _ (λ u lu. p u v 0 refl))) (sum-zero b _ (λ v lv. sum-zero a _ (λ u lu. q u v c refl)))
   box-next (suc (suc (suc x))) l f p q = absurd (omega arith)
+
+  -- a sum of which no two terms are not 0, and none is more than 1
+  pub box-one : (f : ℕ → ℕ → ℕ → ℕ) → ((u v w : ℕ) → f u v w ≤ 1)
+      → ((u v w u′ v′ w′ : ℕ) → 0 < f u v w → 0 < f u′ v′ w′ → (u ≡ u′) × (v ≡ v′) × (w ≡ w′)) → boxSum a b c f ≤ 1
+  unfolding boxSum
+  box-one f h k =
+      sum-one c (λ w. sum b (λ v. sum a (λ u. f u v w)))
+      (λ w lw. sum-one b (λ v. sum a (λ u. f u v w))
+      (λ v lv. sum-one a (λ u. f u v w) (λ u lu. h u v w) (λ u u′ lu lu′ p p′. k u v w u′ v w p p′ .0))
+      (λ v v′ lv lv′ p p′.
+      let r = sum-pos a (λ u. f u v w) p in
+      let r′ = sum-pos a (λ u. f u v′ w) p′ in
+      k (r .0) v w (r′ .0) v′ w (r .2) (r′ .2) .1))
+      (λ w w′ lw lw′ p p′.
+      let r = sum-pos b (λ v. sum a (λ u. f u v w)) p in
+      let r′ = sum-pos b (λ v. sum a (λ u. f u v w′)) p′ in
+      let q = sum-pos a (λ u. f u (r .0) w) (r .2) in
+      let q′ = sum-pos a (λ u. f u (r′ .0) w′) (r′ .2) in
+      k (q .0) (r .0) w (q′ .0) (r′ .0) w′ (q .2) (q′ .2) .2)

@@ -6,5 +6,6 @@ pub mod Telescope
 pub mod Sites
 pub mod Balance
 pub mod Shared
+pub mod Once
 pub mod Numbered
 pub mod Examples

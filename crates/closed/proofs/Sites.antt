@@ -122,6 +122,10 @@ site-missing : (F : Field) (u v w : ℕ) → inBox (F .box) (suc u) (suc v) (suc
 unfolding at cornersOf okAt
 site-missing F u v w b = rw b
 
+pub site-none : (F : Field) (u v w : ℕ) → inBox (F .box) (suc u) (suc v) (suc w) ≡ false → siteTris F u v w ≡ []
+unfolding siteTris keep
+site-none F u v w b = rw (cell-missing (cornersOf (okAt F) u v w) (cornersOf (sideAt F) u v w) (corners-8 (okAt F) u v w) (site-missing F u v w b))
+
 cell-plain : (o : Bool) (u v w : ℕ) → cellTris always (cornersOf (λ u v w. o) u v w) ≡ []
 unfolding cellKey cornersOf
 cell-plain true u v w = refl
@@ -171,7 +175,7 @@ module _ (F : Field) (o : Bool) (P : Fit F o) where
     unfolding cornersOf always above
     corners-ok = corners-same (okAt F) (λ u v w. true) u v w ok-corner
 
-    corners-in : cornersOf (sideOut F o) u v w ≡ cornersOf (sideAt F) u v w
+    pub corners-in : cornersOf (sideOut F o) u v w ≡ cornersOf (sideAt F) u v w
     unfolding sideOut above
     corners-in = corners-same (sideOut F o) (sideAt F) u v w (λ c. rw (box-corner (F .box) u v w c b))
 
@@ -212,21 +216,16 @@ module _ (F : Field) (o : Bool) (P : Fit F o) where
     unfolding above
     corners-out = corners-same (sideOut F o) (λ u v w. o) u v w corner-out
 
-    site-outer : siteTris F u v w ≡ cellAt (sideOut F o) (vertexAt F) u v w
-    unfolding siteTris cellAt keep
-    site-outer =
-        rw (
-          cell-missing (cornersOf (okAt F) u v w) (cornersOf (sideAt F) u v w) (corners-8 (okAt F) u v w) (site-missing F u v w b),
-          corners-out,
-          cell-plain o u v w,
-        )
+    pub cell-outer : cellAt (sideOut F o) (vertexAt F) u v w ≡ []
+    unfolding cellAt keep
+    cell-outer = rw (corners-out, cell-plain o u v w)
 
   pub site-cell : (u v w : ℕ) → siteTris F u v w ≡ cellAt (sideOut F o) (vertexAt F) u v w
   site-cell u v w = go (inBox (F .box) (suc u) (suc v) (suc w)) refl
     where
       go : (b : Bool) → inBox (F .box) (suc u) (suc v) (suc w) ≡ b → siteTris F u v w ≡ cellAt (sideOut F o) (vertexAt F) u v w
       go true e = site-inner u v w e
-      go false e = site-outer u v w e
+      go false e = site-none F u v w e ∙ sym (cell-outer u v w e)
 
   -- ---- the box
 
