@@ -1,17 +1,16 @@
 -- Computed examples: a box that meets the premises and has 24 triangles, and the smallest box that shows why the border must be on one side. Assumes nothing.
-use mathlib.Core.Path.{_≡_, refl, sym, ap, _∙_}
-use mathlib.Core.Bool.{Bool, true, false, not, _&&_, _||_, cond, false≢true}
+use mathlib.Core.Path.{_≡_, refl}
+use mathlib.Core.Bool.{Bool, true, false, not, _||_, cond, false≢true}
 use mathlib.Core.Logic.{_≢_}
-use mathlib.Core.List.{List, [], _∷_}
-use Prim.Native.Nat.{ℕ, suc, _+_, _*_, _<_}
+use Prim.Native.Nat.{ℕ, _+_, _*_, _<_}
 use native.Mathlib.Omega.{arith}
 use lib.Dec.{T, eqb}
 use lib.ListN.{length}
-use Rattle.laws.specs.Ranges.{each, all}
+use Rattle.laws.specs.Ranges.{all}
 use Rattle.laws.specs.Lists.{keep, count}
 use Rattle.laws.proofs.Ranges.{all-at, all-at2}
 use Rattle.lattice.specs.declared.Sides.{Sides}
-use Rattle.lattice.specs.Sites.{SidesFit, inBox, InBox, siteOf, atEnd, onBorder, step}
+use Rattle.lattice.specs.Sites.{SidesFit, inBox, siteOf, atEnd, onBorder, step}
 use Rattle.lattice.proofs.OtherEnds.{box-in}
 use Rattle.tets.specs.March.{Field, none, okAt, sideAt, vertexAt, cornersOf, vertexIn, resolved, proper, emitted, siteTris, slab, march}
 use Rattle.tets.specs.Runs.{runs, crossed}

@@ -1,8 +1,8 @@
 -- Vertices by site and label: every edge has a vertex, and each its own. Assumes nothing.
 use mathlib.Core.Path.{_≡_, refl, sym, ap, _∙_}
 use mathlib.Core.Logic.{_≢_}
-use mathlib.Core.Bool.{Bool, true, false, not, _&&_, Bool·beq}
-use Prim.Native.Nat.{ℕ, suc, _+_, _*_, _<_}
+use mathlib.Core.Bool.{Bool, true, not, _&&_, Bool·beq}
+use Prim.Native.Nat.{ℕ, _<_}
 use native.Mathlib.Omega.{arith}
 use borrow.Author.Tests.{ltb-true}
 use lib.Dec.{ltb}
@@ -10,7 +10,7 @@ use Rattle.laws.proofs.Bools.{and-apart}
 use Rattle.tables.specs.Edges.{cornerOf, du, dv, dw}
 use Rattle.lattice.specs.declared.Sides.{Sides}
 use Rattle.lattice.specs.declared.Uvw.{Uvw}
-use Rattle.lattice.specs.Sites.{SidesFit, sites, inBox, InBox, siteOf, uvwOf, onBorder, step}
+use Rattle.lattice.specs.Sites.{SidesFit, inBox, siteOf, uvwOf, onBorder, step}
 use Rattle.lattice.proofs.Sites.{sites-most, site-lt, uvw-site}
 use Rattle.lattice.proofs.OtherEnds.{box-in}
 use Rattle.tets.specs.March.{Field, none, sideAt, vertexAt}

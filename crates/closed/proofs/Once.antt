@@ -1,13 +1,13 @@
 -- Where each crossed edge has a vertex of its own, a pair that is in a triangle is in exactly two, which run it opposite ways. Assumes nothing.
-use mathlib.Core.Path.{_≡_, refl, sym, ap, ap₂, _∙_}
-use mathlib.Core.Logic.{_≢_, _⊎_, inl, inr}
-use mathlib.Core.Bool.{Bool, true, false, _&&_, cond}
+use mathlib.Core.Path.{_≡_, refl, sym, ap, _∙_}
+use mathlib.Core.Logic.{_⊎_, inl, inr}
+use mathlib.Core.Bool.{Bool, true, false, cond}
 use mathlib.Core.List.{List, [], _∷_, map}
-use Prim.Native.Nat.{ℕ, zero, suc, _+_, _*_, _/_, _%_, _≤_, _<_}
+use Prim.Native.Nat.{ℕ, zero, suc, _/_, _%_, _≤_, _<_}
 use native.Mathlib.Omega.{arith}
 use borrow.Author.Tests.{eqb-true, eq-eqb}
 use lib.Dec.{eqb}
-use Rattle.laws.specs.Lists.{keep, count, All}
+use Rattle.laws.specs.Lists.{keep, count}
 use Rattle.laws.specs.Couples.{Pair, onBoth, fromTo}
 use Rattle.laws.proofs.Bools.{and-apart, and-yes}
 use Rattle.laws.proofs.Ranges.{lt-or}
@@ -15,16 +15,16 @@ use Rattle.laws.proofs.Lists.{all-map, count-map, count-find, count-within}
 use Rattle.tables.specs.Edges.{du, dv, dw}
 use Rattle.tables.specs.Cases.{Tri, sidesOf}
 use Rattle.lattice.specs.Sites.{inBox, step}
-use Rattle.tets.specs.Cells.{Corners, onEach, cellTris}
-use Rattle.tets.specs.March.{Field, sideAt, vertexAt, cornersOf, vertexIn, proper, march}
+use Rattle.tets.specs.Cells.{onEach, cellTris}
+use Rattle.tets.specs.March.{Field, vertexAt, cornersOf, vertexIn, proper, march}
 use Rattle.tets.specs.Runs.{runs, touches}
 use Rattle.closed.specs.Fit.{Fit, Own}
 use Rattle.closed.proofs.Boxes.{on, stepOn, above, box-one}
 use Rattle.closed.proofs.Cells.{always, crossedIn, sides-named}
 use Rattle.closed.proofs.Triangles.{runs-sides}
-use Rattle.closed.proofs.Telescope.{cellAt, cellsOf, cellRuns, box-runs, corners-8}
+use Rattle.closed.proofs.Telescope.{cellAt, cellRuns, box-runs, corners-8}
 use Rattle.closed.proofs.Sites.{cell-edge, sideOut, corners-in, cell-outer, march-cells}
-use Rattle.closed.proofs.Shared.{cellSides, Fine, all-fine, Meet, meet-once}
+use Rattle.closed.proofs.Shared.{cellSides, Fine, all-fine, meet-once}
 use Rattle.closed.proofs.Balance.{march-proper, touch-count, balance}
 
 sides-keep : (p q : ℕ) (f : Tri → Bool) (ts : List Tri) → count (fromTo p q) (sidesOf (keep f ts)) ≤ count (fromTo p q) (sidesOf ts)

@@ -1,11 +1,11 @@
 -- Two cells that share a directed pair of crossed edges are one cell: on a face between two cells the pair runs one way for each of them. Assumes nothing.
 use mathlib.Core.Path.{_≡_, refl, sym, ap, ap₂, _∙_}
 use mathlib.Core.Bool.{Bool, true, false, not, _&&_, _||_, true≢false, false≢true, or-true}
-use mathlib.Core.Logic.{_≢_, _⊎_, inl, inr, ⊎-elim}
-use mathlib.Core.List.{List, [], _∷_, _++_, map}
+use mathlib.Core.Logic.{_≢_, _⊎_, inl, inr}
+use mathlib.Core.List.{List, map}
 use Prim.Native.Nat.{ℕ, zero, suc, _+_, _*_, _/_, _%_, _≤_, _<_}
 use native.Mathlib.Omega.{arith}
-use borrow.Author.Tests.{ltb-true, ltb-false, leb-true, lt-ltb, eqb-true, eqb-false, eq-eqb, ne-eqb, not-true}
+use borrow.Author.Tests.{ltb-true, leb-true, lt-ltb, eqb-true, eq-eqb, ne-eqb, not-true}
 use lib.Dec.{T, eqb, ltb, leb}
 use lib.ListN.{length}
 use Rattle.laws.specs.Bools.{bit}
@@ -17,7 +17,7 @@ use Rattle.laws.proofs.Ranges.{all-at, all-at2, same-at2, lt-or, eq-or}
 use Rattle.laws.proofs.Lists.{every-all, all-map, all-of, count-map, count-within}
 use Rattle.tables.specs.Edges.{cornerOf, labelTo, du, dv, dw}
 use Rattle.tables.specs.Tets.{edgeOf}
-use Rattle.tables.specs.Cases.{Tri, sidesOf, segment}
+use Rattle.tables.specs.Cases.{sidesOf, segment}
 use Rattle.tables.proofs.Edges.{corner-steps}
 use Rattle.lattice.specs.Sites.{step}
 use Rattle.lattice.proofs.Sites.{step-add}
@@ -25,8 +25,7 @@ use Rattle.tets.specs.Cells.{Corners, at, cellTris}
 use Rattle.tets.specs.March.{cornersOf}
 use Rattle.closed.specs.Faces.{unit, segmentOn, face}
 use Rattle.closed.proofs.Boxes.{on, stepOn, stepOn-lt, above}
-use Rattle.closed.proofs.Cells.{always, same, cellKey, crossedIn, CrossedIn, crossed-in, face-named}
-use Rattle.closed.proofs.Telescope.{corners-8}
+use Rattle.closed.proofs.Cells.{always, same, cellKey, crossedIn, crossed-in, face-named}
 
 -- ---- what a directed pair of a cell's edges is like
 
@@ -253,7 +252,7 @@ step-plus x c c′ i i′ e = sym (step-add (stepOn x c) i (stepOn-lt x c)) ∙ 
 module _ (S : ℕ → ℕ → ℕ → Bool) (u v w u′ v′ w′ : ℕ) (z z′ : Pair) (m : Meet S u v w u′ v′ w′ z z′) where
   axis : (x : ℕ) → x < 3
       → Level (on x u v w) (on x u′ v′ w′) (stepOn x (z .0 / 7)) (stepOn x (z′ .0 / 7)) (stepOn x (z .1 / 7)) (stepOn x (z′ .1 / 7))
-        (stepOn x (cornerOf (z .0 % 7))) (stepOn x (cornerOf (z .1 % 7)))
+      (stepOn x (cornerOf (z .0 % 7))) (stepOn x (cornerOf (z .1 % 7)))
   axis x h = record {
     first = step-plus x (z .0 / 7) (z′ .0 / 7) (on x u v w) (on x u′ v′ w′) (m .first x h);
     second = step-plus x (z .1 / 7) (z′ .1 / 7) (on x u v w) (on x u′ v′ w′) (m .second x h);

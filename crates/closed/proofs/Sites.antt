@@ -1,23 +1,21 @@
 -- The march over the sites of a box is that over cells whose corners are all there: where a corner is missing neither has triangles. Assumes nothing.
-use mathlib.Core.Path.{_≡_, refl, sym, ap, ap₂, _∙_}
+use mathlib.Core.Path.{_≡_, refl, sym, ap, _∙_}
 use mathlib.Core.Logic.{_≢_}
-use mathlib.Core.Bool.{Bool, true, false, not, _&&_, _||_, cond, Bool·beq, or-true, true≢false, false≢true}
-use mathlib.Core.List.{List, [], _∷_, _++_, map}
+use mathlib.Core.Bool.{Bool, true, false, not, _||_, cond, Bool·beq, or-true, false≢true}
+use mathlib.Core.List.{List, [], _∷_, map}
 use Prim.Native.Nat.{ℕ, zero, suc, _+_, _-_, _/_, _%_, _≤_, _<_}
 use native.Mathlib.Nat.{mod-lt}
 use native.Mathlib.Omega.{arith}
-use borrow.Author.Tests.{ltb-true, eqb-true, eqb-false, lt-ltb, eq-eqb, ne-eqb}
+use borrow.Author.Tests.{eqb-false, lt-ltb, eq-eqb, ne-eqb}
 use lib.Dec.{eqb, ltb}
-use Rattle.laws.specs.Ranges.{each}
 use Rattle.laws.specs.Lists.{keep, All}
-use Rattle.laws.proofs.Bools.{and-apart, and-yes}
+use Rattle.laws.proofs.Bools.{and-yes, or-none}
 use Rattle.laws.proofs.Ranges.{each-same}
 use Rattle.tables.specs.Edges.{cornerOf, du, dv, dw}
 use Rattle.tables.specs.Cases.{Tri, flat}
 use Rattle.lattice.specs.declared.Sides.{Sides}
-use Rattle.lattice.specs.declared.Uvw.{Uvw}
-use Rattle.lattice.specs.Sites.{inBox, InBox, siteOf, atEnd, onBorder, step}
-use Rattle.lattice.proofs.Sites.{step-add}
+use Rattle.lattice.specs.Sites.{inBox, atEnd, onBorder, step}
+use Rattle.lattice.proofs.Sites.{step-low, step-high, step-step}
 use Rattle.lattice.proofs.OtherEnds.{box-in, in-box}
 use Rattle.tets.specs.Cells.{Corners, at, onEach, cellTris}
 use Rattle.tets.specs.March.{Field, none, okAt, sideAt, vertexAt, cornersOf, vertexIn, resolved, proper, emitted, siteTris, slab, march}
@@ -28,16 +26,6 @@ use Rattle.closed.proofs.Cells.{always, cellKey, crossedIn, CrossedIn, 
 use Rattle.closed.proofs.Telescope.{cellAt, cellsOf, corners-8}
 
 -- ---- corners
-
-step-low : (d u : ℕ) → u ≤ step d u
-unfolding step
-step-low zero u = omega arith
-step-low (suc d) u = omega arith
-
-step-high : (d u : ℕ) → step d u ≤ suc u
-unfolding step
-step-high zero u = omega arith
-step-high (suc d) u = omega arith
 
 module _ (n : Sides) where
   box-below : (u v w u′ v′ w′ : ℕ) → inBox n u′ v′ w′ ≡ true → u ≤ u′ → v ≤ v′ → w ≤ w′ → inBox n u v w ≡ true
@@ -69,9 +57,6 @@ at-corner S u v w (suc (suc (suc (suc (suc (suc (suc zero))))))) h = refl
 at-corner S u v w (suc (suc (suc (suc (suc (suc (suc (suc c)))))))) h = absurd (omega arith)
 
 -- ---- a crossed edge of a cell is a crossed edge of its owner
-
-pub step-step : (d d′ u : ℕ) → d + d′ < 2 → step d′ (step d u) ≡ step (d + d′) u
-step-step d d′ u h = omega (arith, step-add d u (omega arith), step-add d′ (step d u) (omega arith), step-add (d + d′) u h)
 
 first-lt : (c k n : ℕ) → c + k < n → c < n
 first-lt c k n h = omega arith
@@ -133,15 +118,11 @@ cell-plain false u v w = refl
 
 -- ---- the border
 
-or-none : (a b : Bool) → a || b ≡ false → (a ≡ false) × (b ≡ false)
-or-none true b e = absurd (true≢false e)
-or-none false b e = (refl, e)
+not-end : (x m : ℕ) → atEnd x m ≡ false → x < m → suc x < m
+unfolding atEnd
+not-end x m e h = omega (arith, eqb-false x (m - 1) (or-none (eqb x 0) (eqb x (m - 1)) e .1))
 
 module _ (n : Sides) where
-  not-end : (x m : ℕ) → atEnd x m ≡ false → x < m → suc x < m
-  unfolding atEnd
-  not-end x m e h = omega (arith, eqb-false x (m - 1) (or-none (eqb x 0) (eqb x (m - 1)) e .1))
-
   -- a site of the box that is not on its border has a cell
   inner : (u v w : ℕ) → inBox n u v w ≡ true → onBorder n u v w ≡ false → inBox n (suc u) (suc v) (suc w) ≡ true
   unfolding onBorder

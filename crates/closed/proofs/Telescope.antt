@@ -1,22 +1,22 @@
 -- A box of cells has as many directed sides p to q as q to p where the samples on its outer faces are all on one side. Assumes nothing.
 -- Each face of a cell is one of its neighbour's too, run the other way: summed over the box, the faces between two cells go out.
-use mathlib.Core.Path.{_≡_, refl, sym, ap, ap₂, _∙_}
-use mathlib.Core.Bool.{Bool, true, false}
-use mathlib.Core.List.{List, [], _∷_, _++_, map}
+use mathlib.Core.Path.{_≡_, refl, ap, ap₂, _∙_}
+use mathlib.Core.Bool.{Bool}
+use mathlib.Core.List.{List, map}
 use Prim.Native.Nat.{ℕ, zero, suc, _+_, _<_}
 use native.Mathlib.Omega.{arith}
 use lib.ListN.{length}
 use Rattle.laws.specs.Ranges.{each, sum}
 use Rattle.laws.specs.Lists.{keep, count}
-use Rattle.laws.specs.Couples.{Pair, turn, fromTo}
-use Rattle.laws.proofs.Sums.{sum-same, each-count}
+use Rattle.laws.specs.Couples.{fromTo}
+use Rattle.laws.proofs.Sums.{sum-same}
 use Rattle.laws.proofs.Lists.{count-append}
 use Rattle.tables.specs.Edges.{labelTo, du, dv, dw}
 use Rattle.tables.specs.Tets.{edgeOf}
 use Rattle.tables.specs.Cases.{Tri, sidesOf}
 use Rattle.tables.proofs.Cases.{segment-none, sides-append}
 use Rattle.lattice.specs.Sites.{step}
-use Rattle.tets.specs.Cells.{Corners, at, onEach, cellTris}
+use Rattle.tets.specs.Cells.{at, onEach, cellTris}
 use Rattle.tets.specs.March.{cornersOf, vertexIn, proper}
 use Rattle.closed.specs.Faces.{unit, segmentOn, face}
 use Rattle.closed.proofs.Boxes.{on, above, boxSum, box-same, box-plus, box-sum, box-next}

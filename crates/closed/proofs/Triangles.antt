@@ -1,15 +1,15 @@
 -- Triangles by their directed sides: how often one runs a pair, and that a triangle with a repeated vertex runs it as often either way. Assumes nothing.
-use mathlib.Core.Path.{_≡_, refl, sym, ap, ap₂, _∙_}
+use mathlib.Core.Path.{_≡_, refl, sym, ap, _∙_}
 use mathlib.Core.Bool.{Bool, true, false, not, _&&_, _||_, cond, true≢false}
-use mathlib.Core.List.{List, [], _∷_, _++_, map}
-use Prim.Native.Nat.{ℕ, zero, suc, _+_, _≤_}
+use mathlib.Core.List.{List, [], _∷_}
+use Prim.Native.Nat.{ℕ, _+_}
 use native.Mathlib.Omega.{arith}
 use borrow.Author.Tests.{eqb-true, eqb-false, not-true}
 use lib.Dec.{T, eqb, eqb→eq}
-use lib.ListN.{length, getD}
+use lib.ListN.{getD}
 use Rattle.laws.specs.Bools.{bit, allBools}
 use Rattle.laws.specs.Lists.{keep, count, All}
-use Rattle.laws.specs.Couples.{Pair, turn, fromTo}
+use Rattle.laws.specs.Couples.{turn, fromTo}
 use Rattle.laws.proofs.Bools.{bools-at, and-left, and-right, and-apart}
 use Rattle.laws.proofs.Couples.{turn-from}
 use Rattle.tables.specs.Cases.{Tri, sidesOf}
