@@ -7,5 +7,6 @@ pub mod Sites
 pub mod Balance
 pub mod Shared
 pub mod Once
+pub mod Slabs
 pub mod Numbered
 pub mod Examples
