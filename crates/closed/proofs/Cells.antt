@@ -1,8 +1,8 @@
 -- One cell, by tests computed at all 256 sides of its corners: its triangles close up with the segments on its faces, and all their corners are crossed edges. Assumes nothing.
-use mathlib.Core.Path.{_≡_, refl, ap, _∙_}
+use mathlib.Core.Path.{_≡_, refl, ap}
 use mathlib.Core.Bool.{Bool, true, false, not, _&&_, _||_, Bool·beq, true≢false}
 use mathlib.Core.List.{List, [], _∷_, _++_, map}
-use Prim.Native.Nat.{ℕ, zero, suc, _+_, _/_, _%_, _<_}
+use Prim.Native.Nat.{ℕ, _+_, _/_, _%_, _<_}
 use native.Mathlib.Omega.{arith}
 use borrow.Author.Tests.{ltb-true}
 use lib.Dec.{T, eqb, ltb}
@@ -12,7 +12,7 @@ use Rattle.laws.specs.Ranges.{each, sum, all}
 use Rattle.laws.specs.Lists.{count, every, All}
 use Rattle.laws.specs.Couples.{Pair, turn, onBoth, fromTo, against, push, left, isNil, cancels}
 use Rattle.laws.proofs.Bools.{bools-at, and-apart, true-T}
-use Rattle.laws.proofs.Ranges.{each-nil, all-at, same-at}
+use Rattle.laws.proofs.Ranges.{each-nil, each-map, all-at, same-at}
 use Rattle.laws.proofs.Sums.{each-count}
 use Rattle.laws.proofs.Lists.{count-append, map-append, every-all}
 use Rattle.laws.proofs.Couples.{turn-count, onBoth-turn, cancels-even}
@@ -36,20 +36,14 @@ unfoldable pub cellKey : Unit {0}
 unfolding allBools all each bit at caseOf tetOk caseNo onEach tetTris cellTris tetLabel tetCorner tetPair tetPairs edgeOf edgeIn cornerOf labelTo du dv dw mtRow sidesOf always
 cellKey = tt
 
--- the segments on the three low and on the three high faces
-unfoldable pub lows : Corners → (ℕ → ℕ) → List Pair
-lows side h = each 3 (λ x. face x side h 0)
+-- ---- the triangles and the faces
 
-unfoldable pub highs : Corners → (ℕ → ℕ) → List Pair
-highs side h = each 3 (λ x. face x side h (unit x))
+-- the directed sides of a cell's triangles, the segments on its three low faces turned, and those on its three high faces
+unfoldable pub closing : Corners → List Pair
+closing side = sidesOf (cellTris always side) ++ map turn (each 3 (λ x. face x side same 0)) ++ each 3 (λ x. face x side same (unit x))
 
--- ---- the test
-
-unfoldable closing : Corners → List Pair
-closing side = sidesOf (cellTris always side) ++ map turn (lows side same) ++ highs side same
-
-closes : (side : Corners) → length side ≡ 8 → T (cancels (closing side))
-unfolding cellKey closing cancels left push against isNil lows highs face segmentOn segment unit turn
+pub closes : (side : Corners) → length side ≡ 8 → T (cancels (closing side))
+unfolding cellKey closing cancels left push against isNil face segmentOn segment unit turn
 closes side e = bools-at 8 (λ l. cancels (closing l)) tt side e
 
 -- ---- the same under a naming h of the edges
@@ -64,18 +58,13 @@ module _ (h : ℕ → ℕ) where
   unfolding face segmentOn
   face-named x side a = simp (map-append, onBoth-turn, segment-named)
 
-  each-named : (n : ℕ) (f : ℕ → List Pair) → map (onBoth h) (each n f) ≡ each n (λ x. map (onBoth h) (f x))
-  unfolding each
-  each-named zero f = refl
-  each-named (suc n) f = map-append (onBoth h) (each n f) (f n) ∙ ap (λ (l : List Pair). l ++ map (onBoth h) (f n)) (each-named n f)
-
   closing-named : (side : Corners)
       → map (onBoth h) (closing side)
       ≡ sidesOf (map (onEach h) (cellTris always side)) ++ map turn (each 3 (λ x. face x side h 0)) ++ each 3 (λ x. face x side h (unit x))
-  unfolding closing lows highs
-  closing-named side = simp (map-append, onBoth-turn, sides-named, each-named, face-named)
+  unfolding closing
+  closing-named side = simp (map-append, onBoth-turn, sides-named, each-map, face-named)
 
-  -- The directed sides of a cell's triangles, p to q less q to p: as many as on its low faces less those on its high faces.
+  -- p to q less q to p: the cell's triangles have what its low faces have, less what its high faces have
   pub cell-even : (side : Corners) → length side ≡ 8 → (p q : ℕ)
       → count (fromTo p q) (sidesOf (map (onEach h) (cellTris always side)))
       + sum 3 (λ x. count (fromTo q p) (face x side h 0)) + sum 3 (λ x. count (fromTo p q) (face x side h (unit x)))
@@ -120,7 +109,7 @@ crossed-test side e = bools-at 8 (λ l. every (crossedIn l) (flat (cellTris alwa
 pub cell-crossed : (side : Corners) → length side ≡ 8 → All (λ e. crossedIn side e ≡ true) (flat (cellTris always side))
 cell-crossed side e = every-all (crossedIn side) (flat (cellTris always side)) (crossed-test side e)
 
--- ---- no triangles where the highest corner is missing, or where all corners are on one side
+-- ---- no triangles where the highest corner is missing: every tetrahedron has it
 
 missing-test : (ok : Corners) → length ok ≡ 8 → T (all 6 (λ t. at ok 7 || not (tetOk ok t)))
 unfolding cellKey

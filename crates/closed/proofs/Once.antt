@@ -5,13 +5,11 @@ use mathlib.Core.Bool.{Bool, true, false, cond}
 use mathlib.Core.List.{List, [], _∷_, map}
 use Prim.Native.Nat.{ℕ, zero, suc, _/_, _%_, _≤_, _<_}
 use native.Mathlib.Omega.{arith}
-use borrow.Author.Tests.{eqb-true, eq-eqb}
-use lib.Dec.{eqb}
 use Rattle.laws.specs.Lists.{keep, count}
 use Rattle.laws.specs.Couples.{Pair, onBoth, fromTo}
-use Rattle.laws.proofs.Bools.{and-apart, and-yes}
 use Rattle.laws.proofs.Ranges.{lt-or}
 use Rattle.laws.proofs.Lists.{all-map, count-map, count-find, count-within}
+use Rattle.laws.proofs.Couples.{from-ends, ends-from}
 use Rattle.tables.specs.Edges.{du, dv, dw}
 use Rattle.tables.specs.Cases.{Tri, sidesOf}
 use Rattle.lattice.specs.Sites.{inBox, step}
@@ -25,7 +23,7 @@ use Rattle.closed.proofs.Triangles.{runs-sides}
 use Rattle.closed.proofs.Telescope.{cellAt, cellRuns, box-runs, corners-8}
 use Rattle.closed.proofs.Sites.{cell-edge, sideOut, corners-in, cell-outer, march-cells}
 use Rattle.closed.proofs.Shared.{cellSides, Fine, all-fine, meet-once}
-use Rattle.closed.proofs.Balance.{march-proper, touch-count, balance}
+use Rattle.closed.proofs.Balance.{march-proper, touch-count, twice-closed}
 
 sides-keep : (p q : ℕ) (f : Tri → Bool) (ts : List Tri) → count (fromTo p q) (sidesOf (keep f ts)) ≤ count (fromTo p q) (sidesOf ts)
 unfolding keep sidesOf count
@@ -36,18 +34,6 @@ sides-keep p q f (t ∷ ts) = go (f t) (sides-keep p q f ts)
         → count (fromTo p q) (sidesOf (cond b (t ∷ keep f ts) (keep f ts))) ≤ count (fromTo p q) (sidesOf (t ∷ ts))
     go true h = omega arith
     go false h = omega arith
-
--- a pair that h names p and q
-Named : (ℕ → ℕ) → ℕ → ℕ → Pair → Type 0
-Named h p q z = (h (z .0) ≡ p) × (h (z .1) ≡ q)
-
-from-named : (h : ℕ → ℕ) (p q : ℕ) (z : Pair) → fromTo p q (onBoth h z) ≡ true → Named h p q z
-unfolding fromTo onBoth Named
-from-named h p q z e = let r = and-apart (eqb (h (z .0)) p) (eqb (h (z .1)) q) e in (eqb-true (h (z .0)) p (r .0), eqb-true (h (z .1)) q (r .1))
-
-from-equal : (z y : Pair) → y ≡ z → fromTo (z .0) (z .1) y ≡ true
-unfolding fromTo
-from-equal z y e = and-yes (eq-eqb (y .0) (z .0) (ap (λ (x : Pair). x .0) e)) (eq-eqb (y .1) (z .1) (ap (λ (x : Pair). x .1) e))
 
 module _ (F : Field) (o : Bool) (P : Fit F o) (own : Own F) where
   Inside : ℕ → ℕ → ℕ → Type 0
@@ -77,9 +63,11 @@ module _ (F : Field) (o : Bool) (P : Fit F o) (own : Own F) where
 
   module _ (p q : ℕ) where
     meets : (u v w u′ v′ w′ : ℕ) → Inside u v w → Inside u′ v′ w′ → (z z′ : Pair) → Fine (cornersOf S u v w) z → Fine (cornersOf S u′ v′ w′) z′
-        → Named (h u v w) p q z → Named (h u′ v′ w′) p q z′ → (u ≡ u′) × (v ≡ v′) × (w ≡ w′) × (z ≡ z′)
-    unfolding Named
-    meets u v w u′ v′ w′ i i′ z z′ f f′ n n′ =
+        → fromTo p q (onBoth (h u v w) z) ≡ true → fromTo p q (onBoth (h u′ v′ w′) z′) ≡ true → (u ≡ u′) × (v ≡ v′) × (w ≡ w′) × (z ≡ z′)
+    unfolding onBoth
+    meets u v w u′ v′ w′ i i′ z z′ f f′ e e′ =
+        let n = from-ends p q (onBoth (h u v w) z) e in
+        let n′ = from-ends p q (onBoth (h u′ v′ w′) z′) e′ in
         let a = same-vertex u v w u′ v′ w′ i i′ (z .0) (z′ .0) (f .first) (f′ .first) (n .0 ∙ sym (n′ .0)) in
         let b = same-vertex u v w u′ v′ w′ i i′ (z .1) (z′ .1) (f .second) (f′ .second) (n .1 ∙ sym (n′ .1)) in
         meet-once S u v w u′ v′ w′ z z′ (record { one = f; other = f′; first = a .0; second = b .0; label₀ = a .1; label₁ = b .1 })
@@ -106,12 +94,11 @@ module _ (F : Field) (o : Bool) (P : Fit F o) (own : Own F) where
         go true e = refl
         go false e = absurd (empty (cell-outer F o P u v w e))
 
-    found : (u v w : ℕ) → 0 < cellRuns S (vertexAt F) p q u v w → (z : Pair) × (Named (h u v w) p q z) × Fine (cornersOf S u v w) z
+    found : (u v w : ℕ) → 0 < cellRuns S (vertexAt F) p q u v w → (z : Pair) × (fromTo p q (onBoth (h u v w) z) ≡ true) × Fine (cornersOf S u v w) z
     unfolding cellAll
     found u v w l =
-        let r = count-find (λ z. fromTo p q (onBoth (h u v w) z)) (Fine (cornersOf S u v w)) (cellSides (cornersOf S u v w)) (all-fine (cornersOf S u v w) (corners-8 S u v w))
-        (omega (arith, runs-all u v w)) in
-        (r .0, from-named (h u v w) p q (r .0) (r .1), r .2)
+        count-find (λ z. fromTo p q (onBoth (h u v w) z)) (Fine (cornersOf S u v w)) (cellSides (cornersOf S u v w)) (all-fine (cornersOf S u v w) (corners-8 S u v w))
+        (omega (arith, runs-all u v w))
 
     cell-apart : (u v w u′ v′ w′ : ℕ) → 0 < cellRuns S (vertexAt F) p q u v w → 0 < cellRuns S (vertexAt F) p q u′ v′ w′ → (u ≡ u′) × (v ≡ v′) × (w ≡ w′)
     cell-apart u v w u′ v′ w′ l l′ =
@@ -134,7 +121,9 @@ module _ (F : Field) (o : Bool) (P : Fit F o) (own : Own F) where
               runs-all u v w,
               count-within (λ z. fromTo p q (onBoth (h u v w) z)) (fromTo (r .0 .0) (r .0 .1)) (cellSides (cornersOf S u v w))
                   (all-map (Fine (cornersOf S u v w)) (λ z. fromTo p q (onBoth (h u v w) z) ≡ true → fromTo (r .0 .0) (r .0 .1) z ≡ true)
-                  (λ z f e. from-equal (r .0) z (meets u v w u v w i i z (r .0) f (r .2) (from-named (h u v w) p q z e) (r .1) .3))
+                  (λ z f e.
+                  let m = meets u v w u v w i i z (r .0) f (r .2) e (r .1) .3 in
+                  ends-from (r .0 .0) (r .0 .1) z (ap (λ (y : Pair). y .0) m) (ap (λ (y : Pair). y .1) m))
                   (cellSides (cornersOf S u v w)) (all-fine (cornersOf S u v w) (corners-8 S u v w))),
               r .2 .once,
             )
@@ -150,10 +139,12 @@ module _ (F : Field) (o : Bool) (P : Fit F o) (own : Own F) where
         )
         (box-one (F .box .nu) (F .box .nv) (F .box .nw) (cellRuns (sideOut F o) (vertexAt F) p q) cell-once cell-apart)
 
-    -- a pair that is in a triangle is in exactly two, which run it opposite ways
-    pub exactly-two : 0 < count (touches p q) (march F)
-        → (count (touches p q) (march F) ≡ 2) × (count (runs p q) (march F) ≡ 1) × (count (runs q p) (march F) ≡ 1)
-    exactly-two l =
-        let e = touch-count F p q in
-        let b = balance F o P p q in
-        (omega (arith, e, b, run-once), omega (arith, e, b, run-once), omega (arith, e, b, run-once))
+module _ (F : Field) (o : Bool) (P : Fit F o) (own : Own F) (p q : ℕ) where
+  -- no pair is in more than two triangles
+  pub touch-most : count (touches p q) (march F) ≤ 2
+  touch-most = omega (arith, touch-count F p q, run-once F o P own p q, run-once F o P own q p)
+
+  -- a pair that is in a triangle is in exactly two, which run it opposite ways
+  pub exactly-two : 0 < count (touches p q) (march F)
+      → (count (touches p q) (march F) ≡ 2) × (count (runs p q) (march F) ≡ 1) × (count (runs q p) (march F) ≡ 1)
+  exactly-two l = twice-closed F o P p q l touch-most

@@ -5,7 +5,7 @@ use mathlib.Core.Logic.{_≢_, _⊎_, inl, inr}
 use mathlib.Core.List.{List, map}
 use Prim.Native.Nat.{ℕ, zero, suc, _+_, _*_, _/_, _%_, _≤_, _<_}
 use native.Mathlib.Omega.{arith}
-use borrow.Author.Tests.{ltb-true, leb-true, lt-ltb, eqb-true, eq-eqb, ne-eqb, not-true}
+use borrow.Author.Tests.{ltb-true, leb-true, lt-ltb, eq-eqb, ne-eqb, not-true}
 use lib.Dec.{T, eqb, ltb, leb}
 use lib.ListN.{length}
 use Rattle.laws.specs.Bools.{bit}
@@ -15,6 +15,7 @@ use Rattle.laws.specs.Couples.{Pair, turn, onBoth, fromTo}
 use Rattle.laws.proofs.Bools.{bools-at, and-apart, and-yes, true-T, T-true}
 use Rattle.laws.proofs.Ranges.{all-at, all-at2, same-at2, lt-or, eq-or}
 use Rattle.laws.proofs.Lists.{every-all, all-map, all-of, count-map, count-within}
+use Rattle.laws.proofs.Couples.{from-ends, ends-from}
 use Rattle.tables.specs.Edges.{cornerOf, labelTo, du, dv, dw}
 use Rattle.tables.specs.Tets.{edgeOf}
 use Rattle.tables.specs.Cases.{sidesOf, segment}
@@ -109,10 +110,8 @@ all-fine l e = all-map (λ z. fine l z ≡ true) (Fine l) (fine-parts l) (cellSi
 -- ---- the low face of the next cell, moved, is the high face
 
 from-moved : (h : ℕ → ℕ) (z y : Pair) → fromTo (z .0) (z .1) y ≡ true → fromTo (onBoth h z .0) (onBoth h z .1) (onBoth h y) ≡ true
-unfolding fromTo onBoth
-from-moved h z y e =
-    let r = and-apart (eqb (y .0) (z .0)) (eqb (y .1) (z .1)) e in
-    and-yes (eq-eqb (h (y .0)) (h (z .0)) (ap h (eqb-true (y .0) (z .0) (r .0)))) (eq-eqb (h (y .1)) (h (z .1)) (ap h (eqb-true (y .1) (z .1) (r .1))))
+unfolding onBoth
+from-moved h z y e = let r = from-ends (z .0) (z .1) y e in ends-from (h (z .0)) (h (z .1)) (onBoth h y) (ap h (r .0)) (ap h (r .1))
 
 has-moved : (h : ℕ → ℕ) (z : Pair) (l : List Pair) → has z l ≡ true → has (onBoth h z) (map (onBoth h) l) ≡ true
 unfolding has

@@ -55,7 +55,8 @@ module _ (p q : ℕ) where
 
 -- ---- a triangle that is kept: at most one of its sides runs p to q or q to p
 
--- which of three different vertices are p, and which are q
+-- a, b, c say which of the three vertices are p, and a′, b′, c′ which are q
+-- two of them are the same
 several : Bool → Bool → Bool → Bool
 several a b c = (a && b) || (b && c) || (a && c)
 
@@ -66,6 +67,7 @@ some a b c a′ b′ c′ = (a && b′) || (b && c′) || (c && a′)
 many : Bool → Bool → Bool → Bool → Bool → Bool → ℕ
 many a b c a′ b′ c′ = bit (a && b′) + bit (b && c′) + bit (c && a′)
 
+-- of three different vertices: the sides p to q are counted one by one, and no side of the triangle runs the other way
 fair : Bool → Bool → Bool → Bool → Bool → Bool → Bool
 fair a b c a′ b′ c′ =
     several a b c || several a′ b′ c′

@@ -4,12 +4,21 @@ use mathlib.Core.Bool.{Bool, true, false, _&&_, cond, and-comm}
 use mathlib.Core.List.{List, [], _∷_, map}
 use Prim.Native.Nat.{ℕ, _+_, _<_}
 use native.Mathlib.Omega.{arith}
-use lib.Dec.{T, eqb, eqb→eq, eqb-refl}
+use borrow.Author.Tests.{eqb-true, eq-eqb}
+use lib.Dec.{T, eqb, eqb→eq}
 use Rattle.laws.specs.Bools.{bit}
 use Rattle.laws.specs.Lists.{count}
 use Rattle.laws.specs.Couples.{Pair, turn, onBoth, fromTo, against, push, left, isNil, cancels, weigh}
-use Rattle.laws.proofs.Bools.{and-left, and-right, T-true, true-T}
+use Rattle.laws.proofs.Bools.{and-left, and-right, and-apart, and-yes}
 use Rattle.laws.proofs.Lists.{count-map, count-same}
+
+pub from-ends : (p q : ℕ) (x : Pair) → fromTo p q x ≡ true → (x .0 ≡ p) × (x .1 ≡ q)
+unfolding fromTo
+from-ends p q x e = let r = and-apart (eqb (x .0) p) (eqb (x .1) q) e in (eqb-true (x .0) p (r .0), eqb-true (x .1) q (r .1))
+
+pub ends-from : (p q : ℕ) (x : Pair) → x .0 ≡ p → x .1 ≡ q → fromTo p q x ≡ true
+unfolding fromTo
+ends-from p q x e f = and-yes (eq-eqb (x .0) p e) (eq-eqb (x .1) q f)
 
 pub turn-from : (p q : ℕ) (x : Pair) → fromTo p q (turn x) ≡ fromTo q p x
 unfolding fromTo turn
@@ -63,15 +72,11 @@ module _ (h : ℕ → ℕ) where
 -- ---- two lists with the same counts have the same sum, whatever is added, if its order does not matter
 
 from-eq : (x y : Pair) → fromTo (x .0) (x .1) y ≡ true → y ≡ x
-unfolding fromTo
-from-eq x y e =
-    let t = true-T (eqb (y .0) (x .0) && eqb (y .1) (x .1)) e in
-    ap₂ {C = Pair} (λ (a b : ℕ). (a, b)) (eqb→eq (y .0) (x .0) (and-left (eqb (y .0) (x .0)) (eqb (y .1) (x .1)) t))
-    (eqb→eq (y .1) (x .1) (and-right (eqb (y .0) (x .0)) (eqb (y .1) (x .1)) t))
+from-eq x y e = let r = from-ends (x .0) (x .1) y e in ap₂ {C = Pair} (λ (a b : ℕ). (a, b)) (r .0) (r .1)
 
 from-self : (x : Pair) → bit (fromTo (x .0) (x .1) x) ≡ 1
-unfolding fromTo bit
-from-self x = simp (T-true (eqb (x .0) (x .0)) (eqb-refl (x .0)), T-true (eqb (x .1) (x .1)) (eqb-refl (x .1)))
+unfolding bit
+from-self x = ap bit (ends-from (x .0) (x .1) x refl refl)
 
 -- the first x taken out
 without : Pair → List Pair → List Pair

@@ -12,7 +12,7 @@ use lib.ListN.{length, length-append}
 use Rattle.laws.specs.Ranges.{fold, each, any, all}
 use Rattle.laws.specs.Lists.{joined, All}
 use Rattle.laws.proofs.Bools.{and-left, and-right, beq→eq}
-use Rattle.laws.proofs.Lists.{all-append}
+use Rattle.laws.proofs.Lists.{map-append, all-append}
 
 -- ---- cases on two numbers
 
@@ -116,6 +116,11 @@ module _ {A : Type 0} where
   unfolding each All
   all-each P zero f h = tt
   all-each P (suc n) f h = all-append P (each n f) (f n) (all-each P n f h) (h n)
+
+pub each-map : {A B : Type 0} (g : A → B) (n : ℕ) (f : ℕ → List A) → map g (each n f) ≡ each n (λ i. map g (f i))
+unfolding each
+each-map g zero f = refl
+each-map {A} {B} g (suc n) f = map-append g (each n f) (f n) ∙ ap (λ (l : List B). l ++ map g (f n)) (each-map g n f)
 
 -- ---- tests at every number below a bound
 
