@@ -1,5 +1,6 @@
 -- The march is balanced: as many triangles run p to q as q to p, for every lookup of vertices; and what follows from it. Assumes nothing.
 use mathlib.Core.Path.{_≡_, sym, _∙_}
+use mathlib.Core.Logic.{_≢_}
 use mathlib.Core.Bool.{Bool, true}
 use mathlib.Core.List.{map}
 use Prim.Native.Nat.{ℕ, _+_, _*_, _≤_, _<_}
@@ -11,8 +12,9 @@ use Rattle.laws.proofs.Lists.{all-keep, all-map}
 use Rattle.laws.proofs.Ranges.{all-each}
 use Rattle.laws.proofs.Couples.{turn-count, same-weigh}
 use Rattle.tables.specs.Cases.{Tri, sidesOf}
+use Rattle.lattice.specs.Sites.{inBox, siteOf, onBorder}
 use Rattle.tets.specs.Cells.{onEach, cellTris}
-use Rattle.tets.specs.March.{Field, okAt, sideAt, vertexAt, cornersOf, vertexIn, resolved, proper, emitted, siteTris, slab, march}
+use Rattle.tets.specs.March.{Field, none, okAt, sideAt, vertexAt, cornersOf, vertexIn, resolved, proper, emitted, siteTris, slab, march}
 use Rattle.tets.specs.Runs.{runs, touches}
 use Rattle.closed.specs.Fit.{Fit}
 use Rattle.closed.proofs.Triangles.{runs-sides, touch-runs}
@@ -62,3 +64,11 @@ module _ (F : Field) (o : Bool) (P : Fit F o) where
       (f : Pair → A) where
     pub march-weigh : weigh add nought f (sidesOf (march F)) ≡ weigh add nought f (map turn (sidesOf (march F)))
     march-weigh = same-weigh add nought assoc comm f _ _ (λ p q. march-even p q ∙ sym (turn-count p q (sidesOf (march F))))
+
+-- For a lookup that has a vertex for every edge the samples alone are asked: finite, and on one side along the border.
+pub whole-fit : (F : Field) (o : Bool) → ((s l : ℕ) → F .vertex s l ≢ none)
+    → ((u v w : ℕ) → inBox (F .box) u v w ≡ true → F .finite (siteOf (F .box) u v w) ≡ true)
+    → ((u v w : ℕ) → inBox (F .box) u v w ≡ true → onBorder (F .box) u v w ≡ true → sideAt F u v w ≡ o)
+    → Fit F o
+unfolding vertexAt
+whole-fit F o k finite border = record { finite = finite; border = border; named = λ u v w l c. k (siteOf (F .box) u v w) l }

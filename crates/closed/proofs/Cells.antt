@@ -86,6 +86,7 @@ crossedIn l e =
 pub record CrossedIn (l : Corners) (e : ℕ) : Type 0 where
   pub steps : (x : ℕ) → x < 3 → stepOn x (e / 7) + stepOn x (cornerOf (e % 7)) ≡ stepOn x (e / 7 + cornerOf (e % 7))
   pub inside : e / 7 + cornerOf (e % 7) < 8
+  pub owner : e / 7 < 8
   pub apart : not (Bool·beq (at l (e / 7)) (at l (e / 7 + cornerOf (e % 7)))) ≡ true
 
 pub crossed-in : (l : Corners) (e : ℕ) → crossedIn l e ≡ true → CrossedIn l e
@@ -99,8 +100,12 @@ crossed-in l e h =
     record {
       steps = same-at 3 (λ x. stepOn x c + stepOn x k) (λ x. stepOn x (c + k)) (true-T a (s .0));
       inside = ltb-true (c + k) 8 (s .1);
+      owner = first-lt c k (ltb-true (c + k) 8 (s .1));
       apart = r .1;
     }
+  where
+    first-lt : (c k : ℕ) → c + k < 8 → c < 8
+    first-lt c k h = omega arith
 
 crossed-test : (side : Corners) → length side ≡ 8 → T (every (crossedIn side) (flat (cellTris always side)))
 unfolding cellKey every crossedIn flat stepOn on

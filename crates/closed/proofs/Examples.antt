@@ -87,6 +87,13 @@ pub corner-open : (count (runs 1 0) (march corner) ≡ 1) × (count (runs 0 1) (
 unfolding corner marchKey
 corner-open = (refl, refl)
 
+-- so the balance does not follow without the border
+pub border-needed : ((F : Field)
+    → ((u v w : ℕ) → inBox (F .box) u v w ≡ true → F .finite (siteOf (F .box) u v w) ≡ true)
+    → ((u v w l : ℕ) → crossed F u v w l ≡ true → vertexAt F u v w l ≢ none)
+    → (p q : ℕ) → count (runs p q) (march F) ≡ count (runs q p) (march F)) → ⊥
+border-needed k = omega (arith, k corner corner-finite corner-named 1 0, corner-open .0, corner-open .1)
+
 -- ---- the ball with one crossed edge that has no vertex: the border is on one side, and a pair is run one way only
 
 unfoldable pub holed : Field
@@ -95,3 +102,15 @@ holed = record { box = ball .box; finite = ball .finite; side = ball .side; vert
 pub holed-open : (count (runs 12 34) (march holed) ≡ 1) × (count (runs 34 12) (march holed) ≡ 0)
 unfolding holed ball marchKey
 holed-open = (refl, refl)
+
+holed-border : (u v w : ℕ) → inBox (holed .box) u v w ≡ true → onBorder (holed .box) u v w ≡ true → sideAt holed u v w ≡ false
+unfolding holed sideAt
+holed-border u v w i e = ball-fit .border u v w i e
+
+-- nor without a vertex for every crossed edge
+pub named-needed : ((F : Field) (o : Bool)
+    → ((u v w : ℕ) → inBox (F .box) u v w ≡ true → F .finite (siteOf (F .box) u v w) ≡ true)
+    → ((u v w : ℕ) → inBox (F .box) u v w ≡ true → onBorder (F .box) u v w ≡ true → sideAt F u v w ≡ o)
+    → (p q : ℕ) → count (runs p q) (march F) ≡ count (runs q p) (march F)) → ⊥
+unfolding holed
+named-needed k = omega (arith, k holed false (ball-fit .finite) holed-border 12 34, holed-open .0, holed-open .1)

@@ -25,6 +25,7 @@ use Rattle.closed.proofs.Sites.{cell-edge, sideOut, corners-in, cell-ou
 use Rattle.closed.proofs.Shared.{cellSides, Fine, all-fine, meet-once}
 use Rattle.closed.proofs.Balance.{march-proper, touch-count, twice-closed}
 
+-- the sides of the triangles that are kept are among those of all
 sides-keep : (p q : ℕ) (f : Tri → Bool) (ts : List Tri) → count (fromTo p q) (sidesOf (keep f ts)) ≤ count (fromTo p q) (sidesOf ts)
 unfolding keep sidesOf count
 sides-keep p q f [] = omega arith
@@ -36,9 +37,11 @@ sides-keep p q f (t ∷ ts) = go (f t) (sides-keep p q f ts)
     go false h = omega arith
 
 module _ (F : Field) (o : Bool) (P : Fit F o) (own : Own F) where
+  -- the cell at (u, v, w) is in the box
   Inside : ℕ → ℕ → ℕ → Type 0
   Inside u v w = inBox (F .box) (suc u) (suc v) (suc w) ≡ true
 
+  -- the sides of the samples, and the vertex of an edge of a cell
   S : ℕ → ℕ → ℕ → Bool
   S = sideOut F o
 

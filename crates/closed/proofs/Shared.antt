@@ -239,12 +239,6 @@ meet-sym S u v w u′ v′ w′ z z′ m = record {
 crossed-room : (l : Corners) (e : ℕ) → crossedIn l e ≡ true → (x : ℕ) → x < 3 → stepOn x (e / 7) + stepOn x (cornerOf (e % 7)) < 2
 crossed-room l e h x hx = omega (arith, crossed-in l e h .steps x hx, stepOn-lt x (e / 7 + cornerOf (e % 7)))
 
-crossed-lt : (l : Corners) (e : ℕ) → crossedIn l e ≡ true → e / 7 < 8
-crossed-lt l e h = go (e / 7) (cornerOf (e % 7)) (crossed-in l e h .inside)
-  where
-    go : (c k : ℕ) → c + k < 8 → c < 8
-    go c k h = omega arith
-
 step-plus : (x c c′ i i′ : ℕ) → step (stepOn x c) i ≡ step (stepOn x c′) i′ → i + stepOn x c ≡ i′ + stepOn x c′
 step-plus x c c′ i i′ e = sym (step-add (stepOn x c) i (stepOn-lt x c)) ∙ e ∙ step-add (stepOn x c′) i′ (stepOn-lt x c′)
 
@@ -317,9 +311,9 @@ module _ (S : ℕ → ℕ → ℕ → Bool) (u v w u′ v′ w′ : ℕ) (z z′
     unfolding onBoth
     next-pair =
         ap₂ {C = Pair} (λ (a b : ℕ). (a, b))
-        (edge-moved (unit x) (z .0) (z′ .0) (unit-lt x hx) (crossed-lt (cornersOf S u v w) (z .0) (m .one .first)) (crossed-lt (cornersOf S u′ v′ w′) (z′ .0) (m .other .first))
+        (edge-moved (unit x) (z .0) (z′ .0) (unit-lt x hx) (crossed-in (cornersOf S u v w) (z .0) (m .one .first) .owner) (crossed-in (cornersOf S u′ v′ w′) (z′ .0) (m .other .first) .owner)
         (m .label₀) (λ y hy. moved y hy .edge₀))
-        (edge-moved (unit x) (z .1) (z′ .1) (unit-lt x hx) (crossed-lt (cornersOf S u v w) (z .1) (m .one .second)) (crossed-lt (cornersOf S u′ v′ w′) (z′ .1) (m .other .second))
+        (edge-moved (unit x) (z .1) (z′ .1) (unit-lt x hx) (crossed-in (cornersOf S u v w) (z .1) (m .one .second) .owner) (crossed-in (cornersOf S u′ v′ w′) (z′ .1) (m .other .second) .owner)
         (m .label₁) (λ y hy. moved y hy .edge₁))
 
     next-cell : cornersOf S u′ v′ w′ ≡ above (unit x) (cornersOf S) u v w
@@ -357,6 +351,6 @@ module _ (S : ℕ → ℕ → ℕ → Bool) (u v w u′ v′ w′ : ℕ) (z z′
     same-place 1 (omega arith),
     same-place 2 (omega arith),
     ap₂ {C = Pair} (λ (a b : ℕ). (a, b))
-        (same-edge (z .0) (z′ .0) (crossed-lt (cornersOf S u v w) (z .0) (m .one .first)) (crossed-lt (cornersOf S u′ v′ w′) (z′ .0) (m .other .first)) (m .label₀) (m .first))
-        (same-edge (z .1) (z′ .1) (crossed-lt (cornersOf S u v w) (z .1) (m .one .second)) (crossed-lt (cornersOf S u′ v′ w′) (z′ .1) (m .other .second)) (m .label₁) (m .second)),
+        (same-edge (z .0) (z′ .0) (crossed-in (cornersOf S u v w) (z .0) (m .one .first) .owner) (crossed-in (cornersOf S u′ v′ w′) (z′ .0) (m .other .first) .owner) (m .label₀) (m .first))
+        (same-edge (z .1) (z′ .1) (crossed-in (cornersOf S u v w) (z .1) (m .one .second) .owner) (crossed-in (cornersOf S u′ v′ w′) (z′ .1) (m .other .second) .owner) (m .label₁) (m .second)),
   )

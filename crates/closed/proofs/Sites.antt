@@ -1,4 +1,4 @@
--- The march over the sites of a box is that over cells whose corners are all there: where a corner is missing neither has triangles. Assumes nothing.
+-- The march over the sites of a box is that over a box of whole cells, with the samples' sides going on outside it. Assumes nothing.
 use mathlib.Core.Path.{_≡_, refl, sym, ap, _∙_}
 use mathlib.Core.Logic.{_≢_}
 use mathlib.Core.Bool.{Bool, true, false, not, _||_, cond, Bool·beq, or-true, false≢true}
@@ -58,9 +58,6 @@ at-corner S u v w (suc (suc (suc (suc (suc (suc (suc (suc c)))))))) h = absurd (
 
 -- ---- a crossed edge of a cell is a crossed edge of its owner
 
-first-lt : (c k n : ℕ) → c + k < n → c < n
-first-lt c k n h = omega arith
-
 -- a step of 0 or 1 twice over, on each axis
 above-above : {A : Type 0} (f : ℕ → ℕ → ℕ → A) (l : Corners) (e : ℕ) → CrossedIn l e → (u v w : ℕ)
     → above (e / 7) (above (cornerOf (e % 7)) f) u v w ≡ above (e / 7 + cornerOf (e % 7)) f u v w
@@ -87,9 +84,25 @@ cell-edge F u v w b e h =
     crossed-at F u v w c (e % 7) (lt-ltb (e % 7) 7 (mod-lt e (omega arith)))
     (box-corner (F .box) u v w c b)
     (above-above (inBox (F .box)) l e g u v w ∙ box-corner (F .box) u v w (c + k) b)
-    (rw (above-above (sideAt F) l e g u v w, ← at-corner (sideAt F) u v w c (first-lt c k 8 (g .inside)), ← at-corner (sideAt F) u v w (c + k) (g .inside)) (g .apart))
+    (rw (above-above (sideAt F) l e g u v w, ← at-corner (sideAt F) u v w c (g .owner), ← at-corner (sideAt F) u v w (c + k) (g .inside)) (g .apart))
 
--- ---- a site whose highest corner is in the box: no triangle lacks a corner or a vertex
+-- ---- a site whose highest corner is past the box has no triangle
+
+site-missing : (F : Field) (u v w : ℕ) → inBox (F .box) (suc u) (suc v) (suc w) ≡ false → at (cornersOf (okAt F) u v w) 7 ≡ false
+unfolding at cornersOf okAt
+site-missing F u v w b = rw b
+
+pub site-none : (F : Field) (u v w : ℕ) → inBox (F .box) (suc u) (suc v) (suc w) ≡ false → siteTris F u v w ≡ []
+unfolding siteTris keep
+site-none F u v w b = rw (cell-missing (cornersOf (okAt F) u v w) (cornersOf (sideAt F) u v w) (corners-8 (okAt F) u v w) (site-missing F u v w b))
+
+-- nor has a cell with all corners on one side
+cell-plain : (o : Bool) (u v w : ℕ) → cellTris always (cornersOf (λ u v w. o) u v w) ≡ []
+unfolding cellKey cornersOf
+cell-plain true u v w = refl
+cell-plain false u v w = refl
+
+-- ---- triangles whose edges all have a vertex are dropped only where one stands twice
 
 module _ (h : ℕ → ℕ) (f : ℕ → Bool) (ok : (e : ℕ) → f e ≡ true → h e ≢ none) where
   keep-named : (ts : List Tri) → All (λ e. f e ≡ true) (flat ts) → keep emitted (map (onEach h) ts) ≡ keep proper (map (onEach h) ts)
@@ -102,19 +115,6 @@ module _ (h : ℕ → ℕ) (f : ℕ → Bool) (ok : (e : ℕ) → f e ≡ true �
         ne-eqb (h (t .2)) none (ok (t .2) (a .1 .1 .0)),
         keep-named ts (a .1 .1 .1),
       )
-
-site-missing : (F : Field) (u v w : ℕ) → inBox (F .box) (suc u) (suc v) (suc w) ≡ false → at (cornersOf (okAt F) u v w) 7 ≡ false
-unfolding at cornersOf okAt
-site-missing F u v w b = rw b
-
-pub site-none : (F : Field) (u v w : ℕ) → inBox (F .box) (suc u) (suc v) (suc w) ≡ false → siteTris F u v w ≡ []
-unfolding siteTris keep
-site-none F u v w b = rw (cell-missing (cornersOf (okAt F) u v w) (cornersOf (sideAt F) u v w) (corners-8 (okAt F) u v w) (site-missing F u v w b))
-
-cell-plain : (o : Bool) (u v w : ℕ) → cellTris always (cornersOf (λ u v w. o) u v w) ≡ []
-unfolding cellKey cornersOf
-cell-plain true u v w = refl
-cell-plain false u v w = refl
 
 -- ---- the border
 
@@ -133,6 +133,15 @@ module _ (n : Sides) where
       in-box n (record { u = suc u; v = suc v; w = suc w })
       (record { on-u = not-end u (n .nu) (y .0) (b .on-u); on-v = not-end v (n .nv) (y .1) (b .on-v); on-w = not-end w (n .nw) (x .1) (b .on-w) })
 
+  -- where a site has none, the sites of the box at or above it on each axis are on the border
+  from-outer : (u v w u′ v′ w′ : ℕ) → inBox n (suc u) (suc v) (suc w) ≡ false → u ≤ u′ → v ≤ v′ → w ≤ w′ → inBox n u′ v′ w′ ≡ true → onBorder n u′ v′ w′ ≡ true
+  from-outer u v w u′ v′ w′ b p q r i = go (onBorder n u′ v′ w′) refl
+    where
+      go : (x : Bool) → onBorder n u′ v′ w′ ≡ x → x ≡ true
+      go true e = refl
+      go false e =
+          absurd (false≢true (sym b ∙ box-below n (suc u) (suc v) (suc w) (suc u′) (suc v′) (suc w′) (inner u′ v′ w′ i e) (omega arith) (omega arith) (omega arith)))
+
   border-low : (x : ℕ) → x < 3 → (u v w : ℕ) → on x u v w ≡ 0 → onBorder n u v w ≡ true
   unfolding on onBorder atEnd
   border-low zero l u v w e = simp (eq-eqb u 0 e)
@@ -140,11 +149,13 @@ module _ (n : Sides) where
   border-low (suc (suc zero)) l u v w e = simp (eq-eqb w 0 e, or-true)
   border-low (suc (suc (suc x))) l u v w e = absurd (omega arith)
 
--- the sides of the samples, going on outside the box with o
+-- ---- the sides of the samples, going on outside the box with o: all cells then have their corners, and the triangles are the same
+
 unfoldable pub sideOut : Field → Bool → ℕ → ℕ → ℕ → Bool
 sideOut F o u v w = cond (inBox (F .box) u v w) (sideAt F u v w) o
 
 module _ (F : Field) (o : Bool) (P : Fit F o) where
+  -- where the highest corner is in the box
   module _ (u v w : ℕ) (b : inBox (F .box) (suc u) (suc v) (suc w) ≡ true) where
     ok-corner : (c : ℕ) → above c (okAt F) u v w ≡ true
     unfolding above okAt
@@ -171,8 +182,7 @@ module _ (F : Field) (o : Bool) (P : Fit F o) where
         (keep-named (vertexIn (vertexAt F) u v w) (crossedIn (cornersOf (sideAt F) u v w)) named-in
         (cellTris always (cornersOf (sideAt F) u v w)) (cell-crossed (cornersOf (sideAt F) u v w) (corners-8 (sideAt F) u v w)))
 
-  -- ---- a site whose highest corner is past the box: no triangle at all
-
+  -- where it is not
   out-side : (u v w : ℕ) → (inBox (F .box) u v w ≡ true → onBorder (F .box) u v w ≡ true) → sideOut F o u v w ≡ o
   unfolding sideOut
   out-side u v w k = go (inBox (F .box) u v w) refl
@@ -184,14 +194,9 @@ module _ (F : Field) (o : Bool) (P : Fit F o) where
   module _ (u v w : ℕ) (b : inBox (F .box) (suc u) (suc v) (suc w) ≡ false) where
     corner-out : (c : ℕ) → above c (sideOut F o) u v w ≡ o
     unfolding above
-    corner-out c = out-side (step (du c) u) (step (dv c) v) (step (dw c) w) (λ i. go (onBorder (F .box) (step (du c) u) (step (dv c) v) (step (dw c) w)) refl i)
-      where
-        go : (x : Bool) → onBorder (F .box) (step (du c) u) (step (dv c) v) (step (dw c) w) ≡ x → inBox (F .box) (step (du c) u) (step (dv c) v) (step (dw c) w) ≡ true → x ≡ true
-        go true e i = refl
-        go false e i =
-            absurd (false≢true (sym b ∙ box-below (F .box) (suc u) (suc v) (suc w) (suc (step (du c) u)) (suc (step (dv c) v)) (suc (step (dw c) w))
-            (inner (F .box) (step (du c) u) (step (dv c) v) (step (dw c) w) i e)
-            (omega (arith, step-low (du c) u)) (omega (arith, step-low (dv c) v)) (omega (arith, step-low (dw c) w))))
+    corner-out c =
+        out-side (step (du c) u) (step (dv c) v) (step (dw c) w)
+        (from-outer (F .box) u v w (step (du c) u) (step (dv c) v) (step (dw c) w) b (step-low (du c) u) (step-low (dv c) v) (step-low (dw c) w))
 
     corners-out : cornersOf (sideOut F o) u v w ≡ cornersOf (λ u v w. o) u v w
     unfolding above
