@@ -124,6 +124,20 @@ step-add zero u h = omega arith
 step-add (suc zero) u h = omega arith
 step-add (suc (suc d)) u h = absurd (omega arith)
 
+pub step-low : (d u : ℕ) → u ≤ step d u
+unfolding step
+step-low zero u = omega arith
+step-low (suc d) u = omega arith
+
+pub step-high : (d u : ℕ) → step d u ≤ suc u
+unfolding step
+step-high zero u = omega arith
+step-high (suc d) u = omega arith
+
+-- one step after another
+pub step-step : (d d′ u : ℕ) → d + d′ < 2 → step d′ (step d u) ≡ step (d + d′) u
+step-step d d′ u h = omega (arith, step-add d u (omega arith), step-add d′ (step d u) (omega arith), step-add (d + d′) u h)
+
 -- ---- ijk: u U + v V + w W, where U, V and W are the deltas of labels 0, 2 and 6
 
 pub ijk-span : (u v w : ℕ)

@@ -35,6 +35,10 @@ pub or-apart : (a b : Bool) → a || b ≡ true → (a ≡ true) ⊎ (b ≡ true
 or-apart true b e = inl refl
 or-apart false b e = inr e
 
+pub or-none : (a b : Bool) → a || b ≡ false → (a ≡ false) × (b ≡ false)
+or-none true b e = absurd (true≢false e)
+or-none false b e = (refl, e)
+
 -- ---- equations
 
 pub T-true : (a : Bool) → T a → a ≡ true

@@ -1,15 +1,24 @@
--- A list of couples that cancel has as many pairs p to q as q to p, whatever names its ends are given. Assumes nothing.
+-- A list of couples that cancel has as many pairs p to q as q to p, whatever names its ends are given; lists with equal counts have equal sums. Assumes nothing.
 use mathlib.Core.Path.{_≡_, refl, sym, ap, ap₂, _∙_}
 use mathlib.Core.Bool.{Bool, true, false, _&&_, cond, and-comm}
 use mathlib.Core.List.{List, [], _∷_, map}
-use Prim.Native.Nat.{ℕ, _+_}
+use Prim.Native.Nat.{ℕ, _+_, _<_}
 use native.Mathlib.Omega.{arith}
+use borrow.Author.Tests.{eqb-true, eq-eqb}
 use lib.Dec.{T, eqb, eqb→eq}
 use Rattle.laws.specs.Bools.{bit}
 use Rattle.laws.specs.Lists.{count}
-use Rattle.laws.specs.Couples.{Pair, turn, onBoth, fromTo, against, push, left, isNil, cancels}
-use Rattle.laws.proofs.Bools.{and-left, and-right}
+use Rattle.laws.specs.Couples.{Pair, turn, onBoth, fromTo, against, push, left, isNil, cancels, weigh}
+use Rattle.laws.proofs.Bools.{and-left, and-right, and-apart, and-yes}
 use Rattle.laws.proofs.Lists.{count-map, count-same}
+
+pub from-ends : (p q : ℕ) (x : Pair) → fromTo p q x ≡ true → (x .0 ≡ p) × (x .1 ≡ q)
+unfolding fromTo
+from-ends p q x e = let r = and-apart (eqb (x .0) p) (eqb (x .1) q) e in (eqb-true (x .0) p (r .0), eqb-true (x .1) q (r .1))
+
+pub ends-from : (p q : ℕ) (x : Pair) → x .0 ≡ p → x .1 ≡ q → fromTo p q x ≡ true
+unfolding fromTo
+ends-from p q x e f = and-yes (eq-eqb (x .0) p e) (eq-eqb (x .1) q f)
 
 pub turn-from : (p q : ℕ) (x : Pair) → fromTo p q (turn x) ≡ fromTo q p x
 unfolding fromTo turn
@@ -17,6 +26,11 @@ turn-from p q x = and-comm (eqb (x .1) p) (eqb (x .0) q)
 
 pub turn-count : (p q : ℕ) (l : List Pair) → count (fromTo p q) (map turn l) ≡ count (fromTo q p) l
 turn-count p q l = count-map (fromTo p q) turn l ∙ count-same (λ x. fromTo p q (turn x)) (fromTo q p) (turn-from p q) l
+
+pub onBoth-turn : (h : ℕ → ℕ) (l : List Pair) → map (onBoth h) (map turn l) ≡ map turn (map (onBoth h) l)
+unfolding onBoth turn
+onBoth-turn h [] = refl
+onBoth-turn h (x ∷ l) = ap {B = List Pair} (λ r. (h (x .1), h (x .0)) ∷ r) (onBoth-turn h l)
 
 module _ (h : ℕ → ℕ) where
   -- pairs from p to q among those of l, under the names h
@@ -54,3 +68,53 @@ module _ (h : ℕ → ℕ) where
         go : (r : List Pair) → T (isNil r) → runs p q r + (0 + runs q p l) ≡ runs q p r + (0 + runs p q l) → runs p q l ≡ runs q p l
         go [] t e = omega arith
         go (x ∷ r) t e = absurd t
+
+-- ---- two lists with the same counts have the same sum, whatever is added, if its order does not matter
+
+from-eq : (x y : Pair) → fromTo (x .0) (x .1) y ≡ true → y ≡ x
+from-eq x y e = let r = from-ends (x .0) (x .1) y e in ap₂ {C = Pair} (λ (a b : ℕ). (a, b)) (r .0) (r .1)
+
+from-self : (x : Pair) → bit (fromTo (x .0) (x .1) x) ≡ 1
+unfolding bit
+from-self x = ap bit (ends-from (x .0) (x .1) x refl refl)
+
+-- the first x taken out
+without : Pair → List Pair → List Pair
+without x [] = []
+without x (y ∷ ys) = cond (fromTo (x .0) (x .1) y) ys (y ∷ without x ys)
+
+without-count : (x : Pair) (l : List Pair) → 0 < count (fromTo (x .0) (x .1)) l
+    → (p q : ℕ) → count (fromTo p q) l ≡ bit (fromTo p q x) + count (fromTo p q) (without x l)
+unfolding without count bit
+without-count x [] h p q = absurd (omega arith)
+without-count x (y ∷ l) h p q = go (fromTo (x .0) (x .1) y) refl (λ m. without-count x l m p q)
+  where
+    go : (b : Bool) → fromTo (x .0) (x .1) y ≡ b → (0 < count (fromTo (x .0) (x .1)) l → count (fromTo p q) l ≡ bit (fromTo p q x) + count (fromTo p q) (without x l))
+        → bit (fromTo p q y) + count (fromTo p q) l ≡ bit (fromTo p q x) + count (fromTo p q) (cond b l (y ∷ without x l))
+    go true e k = ap (λ (z : Pair). bit (fromTo p q z) + count (fromTo p q) l) (from-eq x y e)
+    go false e k = omega (arith, k (omega (arith, ap bit e)))
+
+module _ {A : Type 0} (add : A → A → A) (nought : A) (assoc : (a b c : A) → add (add a b) c ≡ add a (add b c)) (comm : (a b : A) → add a b ≡ add b a)
+    (f : Pair → A) where
+  without-weigh : (x : Pair) (l : List Pair) → 0 < count (fromTo (x .0) (x .1)) l → weigh add nought f l ≡ add (f x) (weigh add nought f (without x l))
+  unfolding weigh without count bit
+  without-weigh x [] h = absurd (omega arith)
+  without-weigh x (y ∷ l) h = go (fromTo (x .0) (x .1) y) refl (λ m. without-weigh x l m)
+    where
+      rest : A
+      rest = weigh add nought f (without x l)
+
+      go : (b : Bool) → fromTo (x .0) (x .1) y ≡ b → (0 < count (fromTo (x .0) (x .1)) l → weigh add nought f l ≡ add (f x) rest)
+          → add (f y) (weigh add nought f l) ≡ add (f x) (weigh add nought f (cond b l (y ∷ without x l)))
+      go true e k = ap (λ (z : Pair). add (f z) (weigh add nought f l)) (from-eq x y e)
+      go false e k =
+          ap (add (f y)) (k (omega (arith, ap bit e)))
+          ∙ sym (assoc (f y) (f x) rest) ∙ ap (λ (a : A). add a rest) (comm (f y) (f x)) ∙ assoc (f x) (f y) rest
+
+  pub same-weigh : (l m : List Pair) → ((p q : ℕ) → count (fromTo p q) l ≡ count (fromTo p q) m) → weigh add nought f l ≡ weigh add nought f m
+  unfolding weigh count
+  same-weigh [] [] e = refl
+  same-weigh [] (y ∷ m) e = absurd (omega (arith, e (y .0) (y .1), from-self y))
+  same-weigh (x ∷ l) m e =
+      let h : 0 < count (fromTo (x .0) (x .1)) m = omega (arith, e (x .0) (x .1), from-self x) in
+      ap (add (f x)) (same-weigh l (without x m) (λ p q. omega (arith, e p q, without-count x m h p q))) ∙ sym (without-weigh x m h)

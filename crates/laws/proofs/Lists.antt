@@ -6,11 +6,12 @@ use Prim.Native.Nat.{ℕ, zero, suc, _+_, _*_, _≤_, _<_}
 use native.Mathlib.Nat.{not-suc-le-zero, le-of-suc-le-suc}
 use native.Mathlib.Numerals.{add-one}
 use native.Mathlib.Omega.{arith}
+use lib.Dec.{T}
 use lib.ListN.{length, getD, set, take, drop, length-map}
 use lib.Seq.{take-suc, take-suc-set, drop-cons, getD-at, set-at, length-take-le}
 use Rattle.laws.specs.Bools.{bit}
-use Rattle.laws.specs.Lists.{keep, count, joined, total, All}
-use Rattle.laws.proofs.Bools.{bit-le, bit-T, T-true}
+use Rattle.laws.specs.Lists.{keep, count, every, joined, total, All}
+use Rattle.laws.proofs.Bools.{bit-le, bit-T, and-left, and-right, T-true}
 
 -- ---- those that pass a test
 
@@ -186,6 +187,45 @@ module _ {A : Type 0} where
   unfolding All
   all-map P Q f [] a = tt
   all-map P Q f (x ∷ xs) a = (f x (a .0), all-map P Q f xs (a .1))
+
+  pub all-of : (P : A → Type 0) → ((x : A) → P x) → (xs : List A) → All P xs
+  unfolding All
+  all-of P f [] = tt
+  all-of P f (x ∷ xs) = (f x, all-of P f xs)
+
+  pub all-keep : (p : A → Bool) (xs : List A) → All (λ x. p x ≡ true) (keep p xs)
+  unfolding All keep
+  all-keep p [] = tt
+  all-keep p (x ∷ xs) = go (p x) refl (all-keep p xs)
+    where
+      go : (c : Bool) → p x ≡ c → All (λ y. p y ≡ true) (keep p xs) → All (λ y. p y ≡ true) (cond c (x ∷ keep p xs) (keep p xs))
+      go true e a = (e, a)
+      go false e a = a
+
+  pub every-all : (p : A → Bool) (xs : List A) → T (every p xs) → All (λ x. p x ≡ true) xs
+  unfolding All every
+  every-all p [] t = tt
+  every-all p (x ∷ xs) t = (T-true (p x) (and-left (p x) (every p xs) t), every-all p xs (and-right (p x) (every p xs) t))
+
+  -- where some pass a test, there is one, and it has what all have
+  pub count-witness : (p : A → Bool) (P : A → Type 0) (xs : List A) → All P xs → 0 < count p xs → (x : A) × (p x ≡ true) × P x
+  unfolding All count bit
+  count-witness p P [] a h = absurd (omega arith)
+  count-witness p P (x ∷ xs) a h = go (p x) refl h (count-witness p P xs (a .1))
+    where
+      go : (c : Bool) → p x ≡ c → 0 < bit c + count p xs → (0 < count p xs → (y : A) × (p y ≡ true) × P y) → (y : A) × (p y ≡ true) × P y
+      go true e h k = (x, e, a .0)
+      go false e h k = k (omega arith)
+
+  -- no more pass a test than pass one that follows from it
+  pub count-within : (p q : A → Bool) (xs : List A) → All (λ x. p x ≡ true → q x ≡ true) xs → count p xs ≤ count q xs
+  unfolding All count bit
+  count-within p q [] a = omega arith
+  count-within p q (x ∷ xs) a = go (p x) refl (count-within p q xs (a .1))
+    where
+      go : (c : Bool) → p x ≡ c → count p xs ≤ count q xs → bit c + count p xs ≤ bit (q x) + count q xs
+      go true e h = omega (arith, ap bit (a .0 e))
+      go false e h = omega arith
 
   pub all-index : (d : A) (P : A → Type 0) (l : List A) → ((k : ℕ) → k < length l → P (getD l k d)) → All P l
   unfolding All

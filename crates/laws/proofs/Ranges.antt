@@ -11,9 +11,9 @@ use lib.Dec.{T, eqb, eqb→eq}
 use lib.ListN.{length, getD, length-append, List·getD-append}
 use lib.Seq.{getD-at, getD-append-add}
 use Rattle.laws.specs.Ranges.{fold, each, any, all}
-use Rattle.laws.specs.Lists.{All}
+use Rattle.laws.specs.Lists.{joined, All}
 use Rattle.laws.proofs.Bools.{and-left, and-right, or-apart, beq→eq}
-use Rattle.laws.proofs.Lists.{all-append}
+use Rattle.laws.proofs.Lists.{map-append, all-append}
 
 -- ---- cases on two numbers
 
@@ -196,6 +196,16 @@ module _ {A : Type 0} where
       let q : k ≡ n = omega arith in
       ap (λ (j : ℕ). getD (each n (λ i. f i ∷ []) ++ f n ∷ []) j d) q ∙ getD-at (each n (λ i. f i ∷ [])) (f n) [] d n (each-one-length n f) ∙ ap f (sym q))
       (lt-or k n)
+
+  pub all-each : (P : A → Type 0) (n : ℕ) (f : ℕ → List A) → ((i : ℕ) → All P (f i)) → All P (each n f)
+  unfolding each All
+  all-each P zero f h = tt
+  all-each P (suc n) f h = all-append P (each n f) (f n) (all-each P n f h) (h n)
+
+pub each-map : {A B : Type 0} (g : A → B) (n : ℕ) (f : ℕ → List A) → map g (each n f) ≡ each n (λ i. map g (f i))
+unfolding each
+each-map g zero f = refl
+each-map {A} {B} g (suc n) f = map-append g (each n f) (f n) ∙ ap (λ (l : List B). l ++ map g (f n)) (each-map g n f)
 
 -- ---- tests at every number below a bound
 

@@ -1,7 +1,7 @@
 -- Laws of sums over the numbers below a bound. Assumes nothing.
 use mathlib.Core.Path.{_≡_, refl, sym, ap, ap₂, _∙_}
 use mathlib.Core.Bool.{Bool}
-use mathlib.Core.Logic.{⊎-elim}
+use mathlib.Core.Logic.{_⊎_, inl, inr, ⊎-elim}
 use mathlib.Core.List.{List}
 use Prim.Native.Nat.{ℕ, zero, suc, _+_, _-_, _*_, _/_, _%_, _≤_, _<_}
 use native.Mathlib.Nat.{add-zero, zero-add, add-suc, add-assoc, add-comm, suc-mul, zero-mul, add-le-add, le-antisymm, mul-le-mul-right}
@@ -11,10 +11,10 @@ use lib.Count.{onesIn}
 use Rattle.laws.specs.Bools.{bit}
 use Rattle.laws.specs.Digits.{mask}
 use Rattle.laws.specs.Ranges.{sum, each}
-use Rattle.laws.specs.Lists.{total}
+use Rattle.laws.specs.Lists.{total, count}
 use Rattle.laws.proofs.Bools.{bit-le}
 use Rattle.laws.proofs.Ranges.{lt-or}
-use Rattle.laws.proofs.Lists.{total-append}
+use Rattle.laws.proofs.Lists.{total-append, count-append}
 
 pub sum-none : (f : ℕ → ℕ) → sum 0 f ≡ 0
 unfolding sum
@@ -76,6 +76,29 @@ unfolding sum
 sum-swap zero m f = sym (sum-zero m (λ j. 0) (λ i h. refl))
 sum-swap (suc n) m f = rw (sum-swap n m f) (sym (sum-plus m (λ j. sum n (λ i. f i j)) (f n)))
 
+-- ---- at most one term that is not 0
+
+-- a sum that is not 0 has a term that is not
+pub sum-pos : (n : ℕ) (f : ℕ → ℕ) → 0 < sum n f → (i : ℕ) × (i < n) × (0 < f i)
+unfolding sum
+sum-pos zero f h = absurd (omega arith)
+sum-pos (suc n) f h = go (lt-or 0 (f n)) (sum-pos n f)
+  where
+    go : (0 < f n) ⊎ (f n ≤ 0) → (0 < sum n f → (i : ℕ) × (i < n) × (0 < f i)) → (i : ℕ) × (i < suc n) × (0 < f i)
+    go (inl l) k = (n, omega arith, l)
+    go (inr e) k = let r = k (omega arith) in (r .0, omega (arith, r .1), r .2)
+
+pub sum-one : (n : ℕ) (f : ℕ → ℕ) → ((i : ℕ) → i < n → f i ≤ 1) → ((i j : ℕ) → i < n → j < n → 0 < f i → 0 < f j → i ≡ j) → sum n f ≤ 1
+unfolding sum
+sum-one zero f h k = omega arith
+sum-one (suc n) f h k =
+    go (lt-or 0 (sum n f)) (lt-or 0 (f n)) (sum-one n f (λ i l. h i (omega arith)) (λ i j li lj. k i j (omega arith) (omega arith))) (h n (omega arith))
+  where
+    go : (0 < sum n f) ⊎ (sum n f ≤ 0) → (0 < f n) ⊎ (f n ≤ 0) → sum n f ≤ 1 → f n ≤ 1 → sum n f + f n ≤ 1
+    go (inl l) (inl m) a b = let r = sum-pos n f l in absurd (omega (arith, r .1, k (r .0) n (omega (arith, r .1)) (omega arith) (r .2) m))
+    go (inl l) (inr m) a b = omega arith
+    go (inr l) m a b = omega arith
+
 -- ---- the terms moved by one, and by o
 
 pub sum-next : (n : ℕ) (f : ℕ → ℕ) → sum n (λ i. f (suc i)) + f 0 ≡ sum n f + f n
@@ -119,8 +142,13 @@ mask-ones (suc n) p =
     low : (b x : ℕ) → b ≤ 1 → ((b + 2 * x) % 2 ≡ b) × ((b + 2 * x) / 2 ≡ x)
     low b x h = (omega arith, omega arith)
 
--- a sum over joined lists
+-- a sum, and a count, over joined lists
 pub each-total : {A : Type 0} (W : A → ℕ) (n : ℕ) (f : ℕ → List A) → total W (each n f) ≡ sum n (λ i. total W (f i))
 unfolding each sum total
 each-total W zero f = refl
 each-total W (suc n) f = total-append W (each n f) (f n) ∙ ap (λ (x : ℕ). x + total W (f n)) (each-total W n f)
+
+pub each-count : {A : Type 0} (p : A → Bool) (n : ℕ) (f : ℕ → List A) → count p (each n f) ≡ sum n (λ i. count p (f i))
+unfolding each sum count
+each-count p zero f = refl
+each-count p (suc n) f = count-append p (each n f) (f n) ∙ ap (λ (x : ℕ). x + count p (f n)) (each-count p n f)

@@ -1,5 +1,5 @@
 -- Lists: those that pass a test, how many do, lists of lists joined, sums over a list, and what holds of every member. Assumes nothing.
-use mathlib.Core.Bool.{Bool, true, false, cond}
+use mathlib.Core.Bool.{Bool, true, false, _&&_, cond}
 use mathlib.Core.List.{List, [], _∷_, _++_}
 use Prim.Native.Nat.{ℕ, _+_}
 use Rattle.laws.specs.Bools.{bit}
@@ -14,6 +14,11 @@ module _ {A : Type 0} where
   unfoldable pub count : (A → Bool) → List A → ℕ
   count p [] = 0
   count p (x ∷ xs) = bit (p x) + count p xs
+
+  -- whether all do
+  unfoldable pub every : (A → Bool) → List A → Bool
+  every p [] = true
+  every p (x ∷ xs) = p x && every p xs
 
   unfoldable pub joined : List (List A) → List A
   joined [] = []

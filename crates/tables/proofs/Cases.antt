@@ -1,5 +1,5 @@
 -- The rules of MT_TABLE: it names the crossed edges and no others, the opposite case has the same outline turned round, and its sides run along the faces. Assumes nothing.
-use mathlib.Core.Path.{_≡_, refl}
+use mathlib.Core.Path.{_≡_, refl, ap}
 use mathlib.Core.Bool.{Bool, true, false, not, _&&_, _||_, Bool·beq}
 use mathlib.Core.List.{List, [], _∷_, _++_, map}
 use Prim.Native.Nat.{ℕ, zero, suc, _+_, _-_, _<_, _≤_}
@@ -10,7 +10,7 @@ use Rattle.laws.specs.Bools.{bit}
 use Rattle.laws.specs.Ranges.{all}
 use Rattle.laws.specs.Lists.{count}
 use Rattle.laws.specs.Digits.{digit, isSet}
-use Rattle.laws.specs.Couples.{Pair, turn, against, push, left, isNil, cancels}
+use Rattle.laws.specs.Couples.{Pair, turn, onBoth, against, push, left, isNil, cancels}
 use Rattle.laws.proofs.Bools.{and-left, and-right}
 use Rattle.laws.proofs.Ranges.{all-at, beq-at2}
 use Rattle.tables.specs.Tets.{tetPairs, tetPair}
@@ -60,3 +60,27 @@ mt-opposite c h = all-at 16 (λ c. cancels (sidesOf (mtRow c) ++ sidesOf (mtRow 
 pub mt-faces : (c : ℕ) → c < 16 → T (cancels (sidesOf (mtRow c) ++ map turn (faceSegments c)))
 unfolding all cancels left push against isNil sidesOf mtRow faceSegments segment turn isSet digit
 mt-faces c h = all-at 16 (λ c. cancels (sidesOf (mtRow c) ++ map turn (faceSegments c))) tt c h
+
+-- ---- under a naming of the edges, and of lists joined
+
+-- a segment between named edges is the segment with its ends named
+pub segment-named : (h : ℕ → ℕ) (a b c : Bool) (x y z : ℕ) → map (onBoth h) (segment a b c x y z) ≡ segment a b c (h x) (h y) (h z)
+unfolding segment onBoth
+segment-named h true true true x y z = refl
+segment-named h true true false x y z = refl
+segment-named h true false true x y z = refl
+segment-named h true false false x y z = refl
+segment-named h false true true x y z = refl
+segment-named h false true false x y z = refl
+segment-named h false false true x y z = refl
+segment-named h false false false x y z = refl
+
+pub segment-none : (o : Bool) (x y z : ℕ) → segment o o o x y z ≡ []
+unfolding segment
+segment-none true x y z = refl
+segment-none false x y z = refl
+
+pub sides-append : (s t : List Tri) → sidesOf (s ++ t) ≡ sidesOf s ++ sidesOf t
+unfolding sidesOf
+sides-append [] t = refl
+sides-append (x ∷ s) t = ap {B = List Pair} (λ r. (x .0, x .1) ∷ (x .1, x .2) ∷ (x .2, x .0) ∷ r) (sides-append s t)
