@@ -1,0 +1,3 @@
+-- The laws of a build, stage by stage.
+pub mod Examples
+pub mod TwoRounds
