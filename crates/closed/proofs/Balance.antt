@@ -9,7 +9,7 @@ use Rattle.laws.specs.Lists.{count, All}
 use Rattle.laws.specs.Couples.{Pair, turn, fromTo, weigh}
 use Rattle.laws.proofs.Bools.{and-apart}
 use Rattle.laws.proofs.Lists.{all-keep, all-map}
-use Rattle.laws.proofs.Ranges.{all-each}
+use Rattle.laws.proofs.Ranges.{each-all}
 use Rattle.laws.proofs.Couples.{turn-count, same-weigh}
 use Rattle.tables.specs.Cases.{Tri, sidesOf}
 use Rattle.lattice.specs.Sites.{inBox, siteOf, onBorder}
@@ -25,7 +25,7 @@ use Rattle.closed.proofs.Sites.{sideOut, march-cells, low-side, high-si
 pub march-proper : (F : Field) → All (λ t. proper t ≡ true) (march F)
 unfolding march slab siteTris emitted
 march-proper F =
-    all-each _ (F .box .nw) _ (λ w. all-each _ (F .box .nv) _ (λ v. all-each _ (F .box .nu) _ (λ u.
+    each-all _ (F .box .nw) _ (λ w _. each-all _ (F .box .nv) _ (λ v _. each-all _ (F .box .nu) _ (λ u _.
     all-map (λ t. emitted t ≡ true) (λ t. proper t ≡ true) kept _
     (all-keep emitted (map (onEach (vertexIn (vertexAt F) u v w)) (cellTris (cornersOf (okAt F) u v w) (cornersOf (sideAt F) u v w)))))))
   where

@@ -6,7 +6,7 @@ use Prim.Native.Nat.{ℕ, zero, suc, _+_, _*_, _≤_, _<_}
 use native.Mathlib.Nat.{not-suc-le-zero, le-of-suc-le-suc}
 use native.Mathlib.Numerals.{add-one}
 use native.Mathlib.Omega.{arith}
-use lib.Dec.{T}
+use lib.Dec.{T, eqb, ltb}
 use lib.ListN.{length, getD, set, take, drop, length-map}
 use lib.Seq.{take-suc, take-suc-set, drop-cons, getD-at, set-at, length-take-le}
 use Rattle.laws.specs.Bools.{bit}
@@ -305,3 +305,82 @@ module _ {A : Type 0} where
   unfolding All count
   count-agree p q [] a = refl
   count-agree p q (x ∷ l) a = ap₂ (λ (c : Bool) (n : ℕ). bit c + n) (a .0) (count-agree p q l (a .1))
+
+-- ---- kept twice, kept of joined lists, and a key among a list
+
+module _ {A : Type 0} where
+  pub keep-both : (p q : A → Bool) (xs : List A) → keep q (keep p xs) ≡ keep (λ x. p x && q x) xs
+  unfolding keep
+  keep-both p q [] = refl
+  keep-both p q (x ∷ xs) = go (p x) (keep-both p q xs)
+    where
+      go : (c : Bool) → keep q (keep p xs) ≡ keep (λ x. p x && q x) xs
+          → keep q (cond c (x ∷ keep p xs) (keep p xs)) ≡ cond (c && q x) (x ∷ keep (λ x. p x && q x) xs) (keep (λ x. p x && q x) xs)
+      go true e = ap (λ (l : List A). cond (q x) (x ∷ l) l) e
+      go false e = e
+
+  pub keep-never : (xs : List A) → keep (λ x. false) xs ≡ []
+  unfolding keep
+  keep-never [] = refl
+  keep-never (x ∷ xs) = keep-never xs
+
+  pub count-keep : (p q : A → Bool) (xs : List A) → count p (keep q xs) ≤ count p xs
+  unfolding count keep
+  count-keep p q [] = omega arith
+  count-keep p q (x ∷ xs) = go (q x) (count-keep p q xs)
+    where
+      go : (c : Bool) → count p (keep q xs) ≤ count p xs → count p (cond c (x ∷ keep q xs) (keep q xs)) ≤ bit (p x) + count p xs
+      go true h = omega (arith, h)
+      go false h = omega (arith, h)
+
+  pub count-joined : (p : A → Bool) (ls : List (List A)) → count p (joined ls) ≡ total (count p) ls
+  unfolding joined total count
+  count-joined p [] = refl
+  count-joined p (l ∷ ls) = omega (arith, count-append p l (joined ls), count-joined p ls)
+
+  -- one member's part of a sum
+  pub total-at : (d : A) (f : A → ℕ) (xs : List A) (i : ℕ) → i < length xs → f (getD xs i d) ≤ total f xs
+  unfolding total
+  total-at d f [] i h = let z : ⊥ = omega arith in absurd z
+  total-at d f (x ∷ xs) zero h = omega arith
+  total-at d f (x ∷ xs) (suc i) h = omega (arith, total-at d f xs i (omega arith))
+
+  pub all-kept : (P : A → Type 0) (p : A → Bool) (xs : List A) → All P xs → All P (keep p xs)
+  unfolding All keep
+  all-kept P p [] a = tt
+  all-kept P p (x ∷ xs) a = go (p x) (all-kept P p xs (a .1))
+    where
+      go : (c : Bool) → All P (keep p xs) → All P (cond c (x ∷ keep p xs) (keep p xs))
+      go true r = (a .0, r)
+      go false r = r
+
+module _ {A B : Type 0} where
+  pub joined-append : (f : A → List B) (xs ys : List A) → joined (map f (xs ++ ys)) ≡ joined (map f xs) ++ joined (map f ys)
+  unfolding joined
+  joined-append f [] ys = refl
+  joined-append f (x ∷ xs) ys =
+      ap (λ (l : List B). f x ++ l) (joined-append f xs ys) ∙ sym (append-assoc (f x) (joined (map f xs)) (joined (map f ys)))
+
+  pub all-joined : (P : A → Type 0) (Q : B → Type 0) (f : A → List B) → ((x : A) → P x → All Q (f x)) → (xs : List A) → All P xs → All Q (joined (map f xs))
+  unfolding All joined
+  all-joined P Q f h [] a = tt
+  all-joined P Q f h (x ∷ xs) a = all-append Q (f x) (joined (map f xs)) (h x (a .0)) (all-joined P Q f h xs (a .1))
+
+key-times : (c : Bool) (a n m : ℕ) → m ≡ n * a → cond c a 0 + m ≡ (bit c + n) * a
+unfolding bit
+key-times true a n m e = omega (arith, e)
+key-times false a n m e = omega (arith, e)
+
+total-times : (ks : List ℕ) (k a : ℕ) → total (λ j. cond (eqb k j) a 0) ks ≡ count (eqb k) ks * a
+unfolding total count
+total-times [] k a = omega arith
+total-times (j ∷ ks) k a = key-times (eqb k j) a (count (eqb k) ks) (total (λ j. cond (eqb k j) a 0) ks) (total-times ks k a)
+
+once-or-not : (n a : ℕ) → n ≤ 1 → n * a ≡ cond (ltb 0 n) a 0
+once-or-not zero a h = omega arith
+once-or-not (suc zero) a h = omega arith
+once-or-not (suc (suc n)) a h = let z : ⊥ = omega arith in absurd z
+
+-- a list without repeats gives a once where it has k, and never else
+pub total-once : (ks : List ℕ) (k a : ℕ) → count (eqb k) ks ≤ 1 → total (λ j. cond (eqb k j) a 0) ks ≡ cond (ltb 0 (count (eqb k) ks)) a 0
+total-once ks k a h = total-times ks k a ∙ once-or-not (count (eqb k) ks) a h

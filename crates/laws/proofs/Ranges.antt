@@ -8,12 +8,14 @@ use native.Mathlib.Nat.{add-zero, add-suc, zero-mul, suc-mul, le-antisymm, not-s
 use native.Mathlib.Numerals.{add-one}
 use native.Mathlib.Omega.{arith}
 use lib.Dec.{T, eqb, eqb→eq}
+use borrow.Author.Tests.{eqb-true}
 use lib.ListN.{length, getD, length-append, List·getD-append}
 use lib.Seq.{getD-at, getD-append-add}
 use Rattle.laws.specs.Ranges.{fold, each, any, all}
-use Rattle.laws.specs.Lists.{joined, All}
+use Rattle.laws.specs.Bools.{bit}
+use Rattle.laws.specs.Lists.{keep, count, joined, All}
 use Rattle.laws.proofs.Bools.{and-left, and-right, or-apart, beq→eq}
-use Rattle.laws.proofs.Lists.{map-append, all-append}
+use Rattle.laws.proofs.Lists.{keep-append, map-append, count-append, joined-append, all-append}
 
 -- ---- cases on two numbers
 
@@ -197,11 +199,6 @@ module _ {A : Type 0} where
       ap (λ (j : ℕ). getD (each n (λ i. f i ∷ []) ++ f n ∷ []) j d) q ∙ getD-at (each n (λ i. f i ∷ [])) (f n) [] d n (each-one-length n f) ∙ ap f (sym q))
       (lt-or k n)
 
-  pub all-each : (P : A → Type 0) (n : ℕ) (f : ℕ → List A) → ((i : ℕ) → All P (f i)) → All P (each n f)
-  unfolding each All
-  all-each P zero f h = tt
-  all-each P (suc n) f h = all-append P (each n f) (f n) (all-each P n f h) (h n)
-
 pub each-map : {A B : Type 0} (g : A → B) (n : ℕ) (f : ℕ → List A) → map g (each n f) ≡ each n (λ i. map g (f i))
 unfolding each
 each-map g zero f = refl
@@ -264,3 +261,38 @@ pub any-none : (n : ℕ) (p : ℕ → Bool) → ((k : ℕ) → k < n → p k ≡
 unfolding any
 any-none zero p h = refl
 any-none (suc n) p h = ap₂ (λ (x y : Bool). x || y) (any-none n p (λ k l. h k (omega arith))) (h n (omega arith))
+
+-- ---- kept, joined and compared range by range
+
+module _ {A : Type 0} where
+  pub each-keep : (p : A → Bool) (n : ℕ) (f : ℕ → List A) → keep p (each n f) ≡ each n (λ i. keep p (f i))
+  unfolding each keep
+  each-keep p zero f = refl
+  each-keep p (suc n) f = keep-append p (each n f) (f n) ∙ ap (λ (l : List A). l ++ keep p (f n)) (each-keep p n f)
+
+  pub each-longer : (f g : ℕ → List A) → ((i : ℕ) → length (f i) ≤ length (g i)) → (n : ℕ) → length (each n f) ≤ length (each n g)
+  unfolding each
+  each-longer f g h zero = omega arith
+  each-longer f g h (suc n) = omega (arith, length-append (each n f) (f n), length-append (each n g) (g n), h n, each-longer f g h n)
+
+pub each-joined : {A B : Type 0} (f : A → List B) (n : ℕ) (h : ℕ → List A) → joined (map f (each n h)) ≡ each n (λ s. joined (map f (h s)))
+unfolding joined each
+each-joined f zero h = refl
+each-joined f (suc n) h = joined-append f (each n h) (h n) ∙ ap (λ (l : List _). l ++ joined (map f (h n))) (each-joined f n h)
+
+-- a number stands at most once among the numbers below n, and from n on never
+pub record Once (n s c : ℕ) : Type 0 where
+  pub most : c ≤ 1
+  pub past : n ≤ s → c ≡ 0
+
+once-more : (s n : ℕ) (c : Bool) → eqb s n ≡ c → Once n s (count (eqb s) (each n (λ i. i ∷ []))) → Once (suc n) s (count (eqb s) (each n (λ i. i ∷ [])) + (bit c + 0))
+unfolding bit
+once-more s n true e o =
+    let h : s ≡ n = eqb-true s n e in
+    record { most = omega (arith, o .past (omega (arith, h))); past = λ l. let z : ⊥ = omega arith in absurd z }
+once-more s n false e o = record { most = omega (arith, o .most); past = λ l. omega (arith, o .past (omega arith)) }
+
+pub each-once : (n s : ℕ) → Once n s (count (eqb s) (each n (λ i. i ∷ [])))
+unfolding each count
+each-once zero s = record { most = omega arith; past = λ h. refl }
+each-once (suc n) s = rw (count-append (eqb s) (each n (λ i. i ∷ [])) (n ∷ [])) (once-more s n (eqb s n) refl (each-once n s))

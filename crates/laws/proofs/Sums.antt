@@ -1,17 +1,19 @@
 -- Laws of sums over the numbers below a bound. Assumes nothing.
 use mathlib.Core.Path.{_≡_, refl, sym, ap, ap₂, _∙_}
-use mathlib.Core.Bool.{Bool}
+use mathlib.Core.Bool.{Bool, true, false}
 use mathlib.Core.Logic.{_⊎_, inl, inr, ⊎-elim}
-use mathlib.Core.List.{List}
+use mathlib.Core.List.{List, [], _∷_}
 use Prim.Native.Nat.{ℕ, zero, suc, _+_, _-_, _*_, _/_, _%_, _≤_, _<_}
 use native.Mathlib.Nat.{add-zero, zero-add, add-suc, add-assoc, add-comm, suc-mul, zero-mul, add-le-add, le-antisymm, mul-le-mul-right}
 use native.Mathlib.Numerals.{add-one}
 use native.Mathlib.Omega.{arith}
+use borrow.Author.Tests.{leb-true, leb-false, eqb-true, eqb-false, eq-eqb, ne-eqb}
+use lib.Dec.{eqb, leb}
 use lib.Count.{onesIn}
 use Rattle.laws.specs.Bools.{bit}
 use Rattle.laws.specs.Digits.{mask}
 use Rattle.laws.specs.Ranges.{sum, each}
-use Rattle.laws.specs.Lists.{total, count}
+use Rattle.laws.specs.Lists.{count, total}
 use Rattle.laws.proofs.Bools.{bit-le}
 use Rattle.laws.proofs.Ranges.{lt-or}
 use Rattle.laws.proofs.Lists.{total-append, count-append}
@@ -152,3 +154,49 @@ pub each-count : {A : Type 0} (p : A → Bool) (n : ℕ) (f : ℕ → List A) �
 unfolding each sum count
 each-count p zero f = refl
 each-count p (suc n) f = count-append p (each n f) (f n) ∙ ap (λ (x : ℕ). x + count p (f n)) (each-count p n f)
+
+-- a sum whose terms are at most those of another
+pub sum-under : (n : ℕ) (f g : ℕ → ℕ) → ((i : ℕ) → f i ≤ g i) → sum n f ≤ sum n g
+unfolding sum
+sum-under zero f g h = omega arith
+sum-under (suc n) f g h = omega (arith, h n, sum-under n f g h)
+
+-- ---- the term of one number, and a count spread over the numbers
+
+pick-none : (n k : ℕ) (f : ℕ → ℕ) → n ≤ k → sum n (λ e. f e * bit (eqb e k)) ≡ 0
+unfolding bit
+pick-none n k f h =
+    sum-zero n (λ e. f e * bit (eqb e k)) (λ e l. let d : eqb e k ≡ false = ne-eqb e k (λ (q : e ≡ k). omega arith) in rw d (omega arith))
+
+pick-turn : (n k : ℕ) (f : ℕ → ℕ) (c : Bool) → eqb n k ≡ c → k < suc n → (k < n → sum n (λ e. f e * bit (eqb e k)) ≡ f k)
+    → sum n (λ e. f e * bit (eqb e k)) + f n * bit c ≡ f k
+unfolding bit
+pick-turn n k f true e h r = let q : n ≡ k = eqb-true n k e in let z : f n ≡ f k = ap f q in omega (arith, z, pick-none n k f (omega arith))
+pick-turn n k f false e h r =
+    let q : (n ≡ k → ⊥) = eqb-false n k e in
+    let l : k < n = omega (arith, q) in
+    omega (arith, r l)
+
+pub sum-pick : (n k : ℕ) (f : ℕ → ℕ) → k < n → sum n (λ e. f e * bit (eqb e k)) ≡ f k
+unfolding sum
+sum-pick zero k f h = let z : ⊥ = omega arith in absurd z
+sum-pick (suc n) k f h = pick-turn n k f (eqb n k) refl h (sum-pick n k f)
+
+-- x counts itself, so it lies below n
+below-of : (n x : ℕ) (l : List ℕ) → ((e : ℕ) → n ≤ e → bit (eqb e x) + count (eqb e) l ≡ 0) → (c : Bool) → leb n x ≡ c → x < n
+unfolding bit
+below-of n x l h true e =
+    let s : eqb x x ≡ true = eq-eqb x x refl in
+    let z : 1 + count (eqb x) l ≡ 0 = rw s at (h x (leb-true n x e)) in
+    let y : ⊥ = omega arith in absurd y
+below-of n x l h false e = leb-false n x e
+
+pub count-spread : (n : ℕ) (p : ℕ → Bool) (l : List ℕ) → ((e : ℕ) → n ≤ e → count (eqb e) l ≡ 0) → count p l ≡ sum n (λ e. bit (p e) * count (eqb e) l)
+unfolding count
+count-spread n p [] h = sym (sum-zero n (λ e. bit (p e) * 0) (λ e l. omega arith))
+count-spread n p (x ∷ l) h =
+    let r = count-spread n p l (λ e g. omega (arith, h e g)) in
+    let s = sum-pick n x (λ e. bit (p e)) (below-of n x l h (leb n x) refl) in
+    let a = sum-plus n (λ e. bit (p e) * bit (eqb e x)) (λ e. bit (p e) * count (eqb e) l) in
+    omega (arith, r, s, a) ∙ sum-same n (λ e. bit (p e) * bit (eqb e x) + bit (p e) * count (eqb e) l) (λ e. bit (p e) * (bit (eqb e x) + count (eqb e) l))
+    (λ e g. omega arith)

@@ -1,0 +1,9 @@
+-- The laws of a build, stage by stage.
+pub mod Weights
+pub mod Stages
+pub mod Room
+pub mod Lookup
+pub mod Finer
+pub mod Longer
+pub mod Examples
+pub mod TwoRounds
