@@ -39,6 +39,18 @@ module _ {A : Type 0} where
       go true h = omega arith
       go false h = omega arith
 
+  -- a test after a weaker one
+  pub keep-keep : (p q : A → Bool) → ((x : A) → p x ≡ true → q x ≡ true) → (xs : List A) → keep p (keep q xs) ≡ keep p xs
+  unfolding keep
+  keep-keep p q h [] = refl
+  keep-keep p q h (x ∷ xs) = go (p x) (q x) refl refl (h x) (keep-keep p q h xs)
+    where
+      go : (a b : Bool) → p x ≡ a → q x ≡ b → (p x ≡ true → q x ≡ true) → keep p (keep q xs) ≡ keep p xs
+          → keep p (cond b (x ∷ keep q xs) (keep q xs)) ≡ cond a (x ∷ keep p xs) (keep p xs)
+      go a true e f i r = ap (λ (c : Bool). cond c (x ∷ keep p (keep q xs)) (keep p (keep q xs))) e ∙ ap (λ (l : List A). cond a (x ∷ l) l) r
+      go true false e f i r = absurd (false≢true (sym f ∙ i e))
+      go false false e f i r = r
+
   -- ---- how many pass it
 
   pub count-append : (p : A → Bool) (xs ys : List A) → count p (xs ++ ys) ≡ count p xs + count p ys
@@ -132,6 +144,16 @@ module _ {A B : Type 0} where
   map-append f [] ys = refl
   map-append f (x ∷ xs) ys = ap (λ (l : List B). f x ∷ l) (map-append f xs ys)
 
+  pub keep-map : (p : B → Bool) (f : A → B) (xs : List A) → keep p (map f xs) ≡ map f (keep (λ x. p (f x)) xs)
+  unfolding keep
+  keep-map p f [] = refl
+  keep-map p f (x ∷ xs) = go (p (f x)) (keep-map p f xs)
+    where
+      go : (c : Bool) → keep p (map f xs) ≡ map f (keep (λ y. p (f y)) xs)
+          → cond c (f x ∷ keep p (map f xs)) (keep p (map f xs)) ≡ map f (cond c (x ∷ keep (λ y. p (f y)) xs) (keep (λ y. p (f y)) xs))
+      go true e = ap (λ (l : List B). f x ∷ l) e
+      go false e = e
+
   pub total-map : (f : B → ℕ) (g : A → B) (xs : List A) → total f (map g xs) ≡ total (λ x. f (g x)) xs
   unfolding total
   total-map f g [] = refl
@@ -179,3 +201,34 @@ module _ {A : Type 0} where
   pub all-drop : (d : A) (P : A → Type 0) (l : List A) (j : ℕ) → j < length l → All P (drop (suc j) l) → P (getD l j d) → All P (drop j l)
   unfolding All
   all-drop d P l j h a e = rw (drop-cons l j d) (e, a)
+
+  -- what passes a test passes it, and keeps what held of it
+  pub all-keep : (p : A → Bool) (xs : List A) → All (λ x. p x ≡ true) (keep p xs)
+  unfolding All keep
+  all-keep p [] = tt
+  all-keep p (x ∷ xs) = go (p x) refl (all-keep p xs)
+    where
+      go : (c : Bool) → p x ≡ c → All (λ y. p y ≡ true) (keep p xs) → All (λ y. p y ≡ true) (cond c (x ∷ keep p xs) (keep p xs))
+      go true e a = (e, a)
+      go false e a = a
+
+  pub all-kept : (P : A → Type 0) (p : A → Bool) (xs : List A) → All P xs → All P (keep p xs)
+  unfolding All keep
+  all-kept P p [] a = tt
+  all-kept P p (x ∷ xs) a = go (p x) (all-kept P p xs (a .1))
+    where
+      go : (c : Bool) → All P (keep p xs) → All P (cond c (x ∷ keep p xs) (keep p xs))
+      go true r = (a .0, r)
+      go false r = r
+
+module _ {A B : Type 0} where
+  pub all-under : (P : B → Type 0) (f : A → B) (xs : List A) → All (λ x. P (f x)) xs → All P (map f xs)
+  unfolding All
+  all-under P f [] a = tt
+  all-under P f (x ∷ xs) a = (a .0, all-under P f xs (a .1))
+
+  -- two functions that agree on the members
+  pub map-all : (f g : A → B) (xs : List A) → All (λ x. f x ≡ g x) xs → map f xs ≡ map g xs
+  unfolding All
+  map-all f g [] a = refl
+  map-all f g (x ∷ xs) a = ap₂ (λ (y : B) (l : List B). y ∷ l) (a .0) (map-all f g xs (a .1))

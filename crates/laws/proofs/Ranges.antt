@@ -8,10 +8,12 @@ use native.Mathlib.Nat.{add-zero, add-suc, zero-mul, suc-mul, le-antisymm, not-s
 use native.Mathlib.Numerals.{add-one}
 use native.Mathlib.Omega.{arith}
 use lib.Dec.{T, eqb, eqb→eq}
-use lib.ListN.{length, length-append}
+use lib.ListN.{length, getD, length-append, List·getD-append}
+use lib.Seq.{getD-append-add}
 use Rattle.laws.specs.Ranges.{fold, each, any, all}
-use Rattle.laws.specs.Lists.{joined}
+use Rattle.laws.specs.Lists.{joined, keep, All}
 use Rattle.laws.proofs.Bools.{and-left, and-right, beq→eq}
+use Rattle.laws.proofs.Lists.{keep-append, all-append, map-append}
 
 -- ---- cases on two numbers
 
@@ -110,6 +112,53 @@ module _ {A : Type 0} where
   unfolding each
   each-rows zero n f = rw zero-mul
   each-rows (suc m) n f = rw (suc-mul, each-add (m * n) n f, each-rows m n f)
+
+  pub each-first : (n : ℕ) (f : ℕ → List A) → each (suc n) f ≡ f 0 ++ each n (λ i. f (suc i))
+  unfolding each
+  each-first zero f = sym (append-nil (f 0))
+  each-first (suc n) f = ap (λ (l : List A). l ++ f (suc n)) (each-first n f) ∙ append-assoc (f 0) (each n (λ i. f (suc i))) (f (suc n))
+
+  -- one entry a turn: the list of the values
+  pub each-ones : (n : ℕ) (f : ℕ → A) → length (each n (λ i. f i ∷ [])) ≡ n
+  unfolding each
+  each-ones zero f = refl
+  each-ones (suc n) f = omega (arith, length-append (each n (λ i. f i ∷ [])) (f n ∷ []), each-ones n f)
+
+  pub each-at : (d : A) (n : ℕ) (f : ℕ → A) (k : ℕ) → k < n → getD (each n (λ i. f i ∷ [])) k d ≡ f k
+  unfolding each
+  each-at d zero f k h = absurd (not-suc-le-zero h)
+  each-at d (suc n) f k h = ⊎-elim (λ l. List·getD-append L (f n ∷ []) d k (omega (arith, size)) ∙ each-at d n f k l) (λ g. last (omega arith)) (lt-or k n)
+    where
+      L : List A
+      L = each n (λ i. f i ∷ [])
+      size : length (each n (λ i. f i ∷ [])) ≡ n
+      size = each-ones n f
+      last : k ≡ n → getD (each n (λ i. f i ∷ []) ++ (f n ∷ [])) k d ≡ f k
+      last e =
+          let q : k ≡ length (each n (λ i. f i ∷ [])) + 0 = omega (arith, size) in
+          ap (λ (j : ℕ). getD (each n (λ i. f i ∷ []) ++ (f n ∷ [])) j d) q ∙ getD-append-add (each n (λ i. f i ∷ [])) (f n ∷ []) 0 d ∙ ap f (sym e)
+
+  pub each-keep : (p : A → Bool) (n : ℕ) (f : ℕ → List A) → keep p (each n f) ≡ each n (λ i. keep p (f i))
+  unfolding each keep
+  each-keep p zero f = refl
+  each-keep p (suc n) f = keep-append p (each n f) (f n) ∙ ap (λ (l : List A). l ++ keep p (f n)) (each-keep p n f)
+
+  pub each-all : (P : A → Type 0) (n : ℕ) (f : ℕ → List A) → ((i : ℕ) → i < n → All P (f i)) → All P (each n f)
+  unfolding each All
+  each-all P zero f h = tt
+  each-all P (suc n) f h = all-append P (each n f) (f n) (each-all P n f (λ i l. h i (omega arith))) (h n (omega arith))
+
+module _ {A B : Type 0} where
+  pub each-map : (g : A → B) (n : ℕ) (f : ℕ → List A) → map g (each n f) ≡ each n (λ i. map g (f i))
+  unfolding each
+  each-map g zero f = refl
+  each-map g (suc n) f = map-append g (each n f) (f n) ∙ ap (λ (l : List B). l ++ map g (f n)) (each-map g n f)
+
+  -- a loop over the places of a list
+  pub each-list : (l : List A) (d : A) (g : A → List B) → each (length l) (λ k. g (getD l k d)) ≡ joined (map g l)
+  unfolding each joined
+  each-list [] d g = refl
+  each-list (x ∷ l) d g = each-first (length l) (λ k. g (getD (x ∷ l) k d)) ∙ ap (λ (r : List B). g x ++ r) (each-list l d g)
 
 -- ---- tests at every number below a bound
 

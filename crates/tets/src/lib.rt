@@ -1,1 +1,1 @@
-// Cases of tetrahedra, the march over them, and its triangles.
+// The march.
