@@ -9,7 +9,7 @@ use borrow.Author.Tests.{lt-ltb, le-ltb, ltb-true}
 use lib.ListN.{length, getD}
 use lib.Ieee.{Float, nan}
 use Rattle.laws.specs.Bools.{bit, allBools}
-use Rattle.laws.specs.Ranges.{each, all}
+use Rattle.laws.specs.Ranges.{each, all, sum}
 use Rattle.laws.specs.Lists.{keep}
 use Rattle.laws.proofs.Bools.{bit-le, bools-at, T-true}
 use Rattle.laws.proofs.Ranges.{all-at, all-at2, each-at, each-ones, each-nil}
@@ -37,6 +37,18 @@ label-lt t i ht hi = ltb→lt _ _ (all-at2 6 3 (λ t i. ltb (tetLabel t i) 7) tt
 pub corner-lt : (t i : ℕ) → t < 6 → i < 4 → tetCorner t i < 8
 unfolding all tetCorner tetLabel cornerOf
 corner-lt t i ht hi = ltb→lt _ _ (all-at2 6 4 (λ t i. ltb (tetCorner t i) 8) tt t i ht hi)
+
+-- a corner, by the label that leads to it
+corner-label : (t i : ℕ) → i < 3 → cornerOf (tetLabel t i) ≡ tetCorner t (suc i)
+unfolding tetCorner
+corner-label t zero h = refl
+corner-label t (suc zero) h = refl
+corner-label t (suc (suc zero)) h = refl
+corner-label t (suc (suc (suc i))) h = absurd (omega arith)
+
+pub corner-by : (t i l a : ℕ) → t < 6 → i < 3 → l ≡ tetLabel t i → a ≡ cornerOf l → (a < 8) × (a ≡ tetCorner t (suc i))
+corner-by t i l a ht hi e f =
+    let g : a ≡ tetCorner t (suc i) = f ∙ ap cornerOf e ∙ corner-label t i hi in (rw g (corner-lt t (suc i) ht (omega arith)), g)
 
 first-corner : (t : ℕ) → tetCorner t 0 ≡ 0
 unfolding tetCorner
@@ -191,7 +203,7 @@ module _ (n : Sides) (s : List Float) (h : Float) (edges : List ℕ) where
 
     -- all corners are outside
     pub outside-none : codeSum (codesOf n s h u v) ≡ 0 → siteTris (fieldOf n s h edges) u v 0 ≡ []
-    unfolding caseBy
+    unfolding caseBy codeSum sum
     outside-none e = even-cell 0 (zeros (codesOf n s h u v) e) mt-none
       where
         zeros : (l : List ℕ) → codeSum l ≡ 0 → (c : ℕ) → c < 8 → getD l c 0 ≡ 0
@@ -207,7 +219,7 @@ module _ (n : Sides) (s : List Float) (h : Float) (edges : List ℕ) where
 
     -- all corners are inside
     pub inside-none : codeSum (codesOf n s h u v) ≡ 8 → siteTris (fieldOf n s h edges) u v 0 ≡ []
-    unfolding caseBy
+    unfolding caseBy codeSum sum
     inside-none e = even-cell 1 (ones (codesOf n s h u v) e (λ c l. rw (codes-at c l) (code-low (at oks c) (at ins c)))) mt-all
       where
         ones : (l : List ℕ) → codeSum l ≡ 8 → ((c : ℕ) → c < 8 → getD l c 0 ≤ 8 → getD l c 0 ≤ 1) → (c : ℕ) → c < 8 → getD l c 0 ≡ 1

@@ -10,7 +10,7 @@ use Rattle.tables.specs.Edges.{du, dv, dw}
 use Rattle.tables.specs.Tets.{edgeIn}
 use Rattle.tables.specs.Cases.{Tri, flat, mtRow}
 use Rattle.lattice.specs.declared.Sides.{Sides}
-use Rattle.lattice.specs.Sites.{SidesFit, sites}
+use Rattle.lattice.specs.Sites.{SidesFit, sites, cells}
 use Rattle.tets.specs.Samples.{caseOn}
 use Rattle.tets.specs.March.{Field, emitted, siteTris}
 
@@ -67,3 +67,10 @@ pub record Lent (n : Sides) (s : List Float) (edges : List ℕ) : Type 0 where
   pub two : 1 < n .nw
   pub samples : sites n ≤ length s
   pub table : 7 * sites n ≤ length edges
+
+-- those of any box, and a list with room for twelve triangles a cell
+pub record Lends (n : Sides) (s : List Float) (edges tris : List ℕ) : Type 0 where
+  pub fit : SidesFit n
+  pub samples : sites n ≤ length s
+  pub table : 7 * sites n ≤ length edges
+  pub room : 36 * cells n ≤ length tris

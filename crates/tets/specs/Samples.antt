@@ -6,7 +6,7 @@ use lib.Dec.{ltb}
 use lib.ListN.{getD}
 use lib.Ieee.{Float, nan}
 use Rattle.laws.specs.Bools.{bit}
-use Rattle.laws.specs.Ranges.{each}
+use Rattle.laws.specs.Ranges.{each, sum}
 use Rattle.tables.specs.Edges.{du, dv, dw}
 use Rattle.tables.specs.Tets.{tetCorner}
 use Rattle.sides.specs.declared.Sample.{Sample}
@@ -55,5 +55,5 @@ unfoldable pub caseOn : List ℕ → ℕ → ℕ
 caseOn l t = caseBy (getD l 0 0) (getD l (tetCorner t 1) 0) (getD l (tetCorner t 2) 0) (getD l (tetCorner t 3) 0)
 
 -- all eight together: 0 where all are outside, 8 where all are inside
-abbrev pub codeSum : List ℕ → ℕ
-codeSum l = getD l 0 0 + getD l 1 0 + getD l 2 0 + getD l 3 0 + getD l 4 0 + getD l 5 0 + getD l 6 0 + getD l 7 0
+unfoldable pub codeSum : List ℕ → ℕ
+codeSum l = sum 8 (λ c. getD l c 0)
