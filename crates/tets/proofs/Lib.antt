@@ -2,3 +2,5 @@
 pub mod Cases
 pub mod Flat
 pub mod Places
+pub mod March
+pub mod Walk

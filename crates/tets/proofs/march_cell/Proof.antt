@@ -1,3 +1,10 @@
+-- `tets::march_cell` meets its contract. Assumes nothing.
+use mathlib.Core.Path.{_≡_, sym, ap, _∙_}
+use native.Mathlib.Omega.{arith}
+use denote.Ref.{now}
+use Rattle.tets.specs.Samples.{codeSum}
+use Rattle.tets.proofs.Cases.{codes-coded}
+use Rattle.tets.proofs.Walk.{cell-placed, cell-room, cell-in, cell-tris, outside-written, inside-written}
 use Rattle.tets.proofs.march_cell.Statement.{statement}
 use Rattle.tets.proofs.march_cell.Tie as tie
 use Rattle.tets.proofs.march_cell.Reads as reads
@@ -6,45 +13,38 @@ use Rattle.tets.proofs.code_sum.Reads as code-sum-reads
 use Rattle.tets.proofs.corner_codes.Reads as corner-codes-reads
 use Rattle.tets.proofs.march_tets.Reads as march-tets-reads
 
--- src/lib.rt:251:17
 corner-codes-requires : tie.Need-corner-codes-requires
-corner-codes-requires c κs = ?
+corner-codes-requires c κs = let a = c .before .before .before .args in cell-placed (a .n) (now (a .s)) (now (a .edges)) (a .u) (a .v) (c .before .before .before .pre .0 .0) (c .before .before .before .pre .0 .1) (c .before .before .before .pre .0 .2)
 
--- src/lib.rt:252:9
 code-sum-requires : tie.Need-code-sum-requires
-code-sum-requires c κs = ?
+code-sum-requires c κs = let a = c .before .before .before .before .before .args in rw (c .before .corner-codes .ensures) (codes-coded (a .n) (now (a .s)) (a .h) (now (a .edges)) (a .u) (a .v))
 
--- src/lib.rt:254:9
 returns : tie.Need-returns
-returns c = ?
+returns c = let a = c .before .before .before .before .before .before .before .args in outside-written (a .n) (now (a .s)) (a .h) (now (a .edges)) (a .u) (a .v) (now (a .tris)) (a .at) (ap codeSum (sym (c .before .before .before .corner-codes .ensures)) ∙ sym (c .before .code-sum .ensures) ∙ c .if1 .taken)
 
--- src/lib.rt:257:9
 returns-2 : tie.Need-returns-2
-returns-2 c = ?
+returns-2 c = let a = c .before .before .before .before .before .before .before .before .args in inside-written (a .n) (now (a .s)) (a .h) (now (a .edges)) (a .u) (a .v) (now (a .tris)) (a .at) (ap codeSum (sym (c .before .before .before .before .corner-codes .ensures)) ∙ sym (c .before .before .code-sum .ensures) ∙ c .if2 .taken)
 
--- src/lib.rt:260:14
 mul-nn : tie.Need-mul-nn
-mul-nn c = ?
+mul-nn c = let s = c .before .before .before .before .before .before .before .before .before in omega (arith, cell-room (s .args .n) (now (s .args .s)) (now (s .args .edges)) (s .args .u) (s .args .v) (s .pre .0 .0) (s .pre .0 .2))
 
--- src/lib.rt:261:37
 mul-march-tets : tie.Need-mul-march-tets
-mul-march-tets c = ?
+mul-march-tets c = let s = c .before .before .before .before .before .before .before .before .before .before in omega (arith, cell-room (s .args .n) (now (s .args .s)) (now (s .args .edges)) (s .args .u) (s .args .v) (s .pre .0 .0) (s .pre .0 .2))
 
--- src/lib.rt:261:33
 add-march-tets : tie.Need-add-march-tets
-add-march-tets c = ?
+add-march-tets c = let s = c .before .before .before .before .before .before .before .before .before .before in omega (arith, cell-room (s .args .n) (now (s .args .s)) (now (s .args .edges)) (s .args .u) (s .args .v) (s .pre .0 .0) (s .pre .0 .2))
 
--- src/lib.rt:261:5
 march-tets-requires : tie.Need-march-tets-requires
-march-tets-requires c κs = ?
+march-tets-requires c κs = 
+    let s = c .before .before .before .before .before .before .before .before .before .before .before in
+    let a = s .args in
+    ((cell-in (a .n) (now (a .s)) (now (a .edges)) (a .u) (a .v) (s .pre .0 .0) (s .pre .0 .1) (s .pre .0 .2), rw (c .before .before .before .before .before .before .before .corner-codes .ensures) (codes-coded (a .n) (now (a .s)) (a .h) (now (a .edges)) (a .u) (a .v))), s .pre .1)
 
--- src/lib.rt:237:1
 same-length : tie.Need-same-length
-same-length c = ?
+same-length c = c .before .before .march-tets .kept .1 .0
 
--- src/lib.rt:237:1
 returns-3 : tie.Need-returns-3
-returns-3 c = ?
+returns-3 c = let a = c .before .before .before .before .before .before .before .before .before .before .before .before .before .before .args in rw (← cell-tris (a .n) (now (a .s)) (a .h) (now (a .edges)) (a .u) (a .v), ← c .before .before .before .before .before .before .before .before .before .before .corner-codes .ensures) (c .before .before .march-tets .ensures)
 
 pub march-cell-spec : {M : Type 1} → statement M
 march-cell-spec =
