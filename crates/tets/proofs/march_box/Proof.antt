@@ -1,3 +1,17 @@
+-- `tets::march_box` meets its contract. Assumes nothing.
+use borrow.Author.Needs.{needs}
+use mathlib.Core.Path.{_≡_}
+use Prim.Native.Nat.{ℕ, _+_, _*_, _≤_, _<_, _-_}
+use native.Mathlib.Omega.{arith}
+use denote.Ref.{now}
+use Rattle.laws.specs.Ranges.{each}
+use Rattle.laws.specs.Written.{Written}
+use Rattle.laws.proofs.Ranges.{each-none}
+use Rattle.laws.proofs.Written.{written-none, written-turn, written-done, written-length, written-room}
+use Rattle.laws.proofs.Tails.{tail-is}
+use Rattle.lattice.proofs.Sites.{layer-most}
+use Rattle.tets.specs.Lists.{fieldOf}
+use Rattle.tets.proofs.Walk.{LayerRoom, layer-room, layer-lent, tailFlat, tail-le, box-layers, box-room, third}
 use Rattle.tets.proofs.march_box.Statement.{statement}
 use Rattle.tets.proofs.march_box.Tie as tie
 use Rattle.tets.proofs.march_box.Reads as reads
@@ -5,86 +19,89 @@ use Rattle.tets.proofs.march_box.Lts as lts
 use Rattle.tets.proofs.march_layer.Reads as march-layer-reads
 
 abbrev Inv-loop : tie.InvT-loop
-Inv-loop samples edges tris₀ h nu nv nn m next₀ w₀ tris next w = ?
+Inv-loop samples edges tris₀ h nu nv nn m next₀ w₀ tris next w = (w ≤ m) × Written tris₀ 0 (each w (tailFlat nu nv samples h edges)) tris next
 
 abbrev μ-loop : tie.MeasureT-loop
-μ-loop samples edges tris₀ h nu nv nn m next₀ w₀ tris next w = ?
+μ-loop samples edges tris₀ h nu nv nn m next₀ w₀ tris next w = m - w
 
--- src/lib.rt:307:14
 mul-nn : tie.Need-mul-nn Inv-loop μ-loop
-mul-nn c = ?
+mul-nn c = let s = c .before .before .before in omega (arith, layer-most (s .args .n) (s .pre .fit))
 
--- src/lib.rt:308:13
 sub-m : tie.Need-sub-m Inv-loop μ-loop
-sub-m c = ?
+sub-m c = omega arith
 
--- src/lib.rt:310:5
 loop-holds : tie.Need-loop-holds Inv-loop μ-loop
-loop-holds c = ?
+loop-holds c = (search needs, rw each-none (written-none _ _))
 
--- src/lib.rt:311:17
+turn : (c : tie.In-loop Inv-loop μ-loop) → let a = c .before .before .before .before .before .before .args in LayerRoom (a .n) (now (a .samples)) (now (a .edges)) (c .before .loop .w)
+turn c =
+    let start = c .before .before .before .before .before .before in
+    let a = start .args in
+    layer-room (a .n) (now (a .samples)) (now (a .edges)) (now (a .tris)) (c .before .loop .w) (start .pre) (c .loop-test .taken)
+
 mul-a : tie.Need-mul-a Inv-loop μ-loop
-mul-a c = ?
+mul-a c = omega (arith, turn c)
 
--- src/lib.rt:312:17
 mul-e : tie.Need-mul-e Inv-loop μ-loop
-mul-e c = ?
+mul-e c = omega (arith, turn c)
 
--- src/lib.rt:313:28
 mul-march-layer : tie.Need-mul-march-layer Inv-loop μ-loop
-mul-march-layer c = ?
+mul-march-layer c = omega (arith, turn c)
 
--- src/lib.rt:313:28
 sub-march-layer : tie.Need-sub-march-layer Inv-loop μ-loop
-sub-march-layer c = ?
+sub-march-layer c = omega (arith, turn c)
 
--- src/lib.rt:313:28
 part-march-layer-start : tie.Need-part-march-layer-start Inv-loop μ-loop
-part-march-layer-start c = ?
+part-march-layer-start c = omega (arith, turn c)
 
--- src/lib.rt:313:28
 part-march-layer-end : tie.Need-part-march-layer-end Inv-loop μ-loop
-part-march-layer-end c = ?
+part-march-layer-end c = omega (arith, turn c)
 
--- src/lib.rt:313:43
 mul-march-layer-2 : tie.Need-mul-march-layer-2 Inv-loop μ-loop
-mul-march-layer-2 c = ?
+mul-march-layer-2 c = omega (arith, turn (c .before))
 
--- src/lib.rt:313:43
 sub-march-layer-2 : tie.Need-sub-march-layer-2 Inv-loop μ-loop
-sub-march-layer-2 c = ?
+sub-march-layer-2 c = omega (arith, turn (c .before))
 
--- src/lib.rt:313:43
 part-march-layer-start-2 : tie.Need-part-march-layer-start-2 Inv-loop μ-loop
-part-march-layer-start-2 c = ?
+part-march-layer-start-2 c = omega (arith, turn (c .before))
 
--- src/lib.rt:313:43
 part-march-layer-end-2 : tie.Need-part-march-layer-end-2 Inv-loop μ-loop
-part-march-layer-end-2 c = ?
+part-march-layer-end-2 c = omega (arith, turn (c .before))
 
--- src/lib.rt:313:9
 march-layer-requires : tie.Need-march-layer-requires Inv-loop μ-loop
-march-layer-requires c κs = ?
+march-layer-requires c κs = 
+    let at = c .before .before .before .before .loop in
+    let start = c .before .before .before .before .before .before .before .before .before in
+    let a = start .args in
+    let w-in = c .before .before .before .loop-test .taken in (
+      rw (tail-is, tail-is) (layer-lent (a .n) (now (a .samples)) (now (a .edges)) (now (a .tris)) (at .w) (start .pre) w-in),
+      written-room (tailFlat (a .n .nu) (a .n .nv) (now (a .samples)) (a .h) (now (a .edges))) ((a .n .nv - 1) * ((a .n .nu - 1) * 36))
+          (tail-le (a .n) (now (a .samples)) (a .h) (now (a .edges))) (at .w) (a .n .nw - 1) (at .inv .1) w-in
+          (box-room (a .n) (now (a .samples)) (now (a .edges)) (now (a .tris)) (start .pre)),
+    )
 
--- src/lib.rt:310:9
 add-w : tie.Need-add-w Inv-loop μ-loop
-add-w c = ?
+add-w c = omega arith
 
--- src/lib.rt:310:5
 loop-less : tie.Need-loop-less Inv-loop μ-loop
-loop-less c = ?
+loop-less c = omega arith
 
--- src/lib.rt:310:5
 loop-again : tie.Need-loop-again Inv-loop μ-loop
-loop-again c = ?
+unfolding tailFlat
+loop-again c =
+    let at = c .before .before .before .before .before .before .before .loop in
+    (omega arith, written-turn _ (at .w) (at .inv .1) (rw (tail-is, tail-is) at (c .before .before .march-layer .ensures)))
 
--- src/lib.rt:301:1
 same-length : tie.Need-same-length Inv-loop μ-loop
-same-length c = ?
+same-length c = written-length (c .before .loop .inv .1)
 
--- src/lib.rt:301:1
 returns : tie.Need-returns Inv-loop μ-loop
-returns c = ?
+returns c = 
+    let at = c .before .loop in
+    let a = c .before .before .before .before .before .before .args in
+    let w = rw (box-layers (a .n) (now (a .samples)) (a .h) (now (a .edges))) at (written-done _ (at .w) _ (at .inv .1) (at .inv .0) (c .loop-test .left)) in
+    rw (third (fieldOf (a .n) (now (a .samples)) (a .h) (now (a .edges))) (at .next) (w .next)) w
 
 pub march-box-spec : {M : Type 1} → statement M
 march-box-spec =
