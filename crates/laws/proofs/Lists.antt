@@ -39,18 +39,6 @@ module _ {A : Type 0} where
       go true h = omega arith
       go false h = omega arith
 
-  -- a test after a weaker one
-  pub keep-keep : (p q : A → Bool) → ((x : A) → p x ≡ true → q x ≡ true) → (xs : List A) → keep p (keep q xs) ≡ keep p xs
-  unfolding keep
-  keep-keep p q h [] = refl
-  keep-keep p q h (x ∷ xs) = go (p x) (q x) refl refl (h x) (keep-keep p q h xs)
-    where
-      go : (a b : Bool) → p x ≡ a → q x ≡ b → (p x ≡ true → q x ≡ true) → keep p (keep q xs) ≡ keep p xs
-          → keep p (cond b (x ∷ keep q xs) (keep q xs)) ≡ cond a (x ∷ keep p xs) (keep p xs)
-      go a true e f i r = ap (λ (c : Bool). cond c (x ∷ keep p (keep q xs)) (keep p (keep q xs))) e ∙ ap (λ (l : List A). cond a (x ∷ l) l) r
-      go true false e f i r = absurd (false≢true (sym f ∙ i e))
-      go false false e f i r = r
-
   -- ---- how many pass it
 
   pub count-append : (p : A → Bool) (xs ys : List A) → count p (xs ++ ys) ≡ count p xs + count p ys
@@ -220,6 +208,18 @@ module _ {A : Type 0} where
       go : (c : Bool) → All P (keep p xs) → All P (cond c (x ∷ keep p xs) (keep p xs))
       go true r = (a .0, r)
       go false r = r
+
+  -- a test after one that is weaker on the members
+  pub keep-keep : (p q : A → Bool) (xs : List A) → All (λ x. p x ≡ true → q x ≡ true) xs → keep p (keep q xs) ≡ keep p xs
+  unfolding All keep
+  keep-keep p q [] a = refl
+  keep-keep p q (x ∷ xs) a = go (p x) (q x) refl refl (keep-keep p q xs (a .1))
+    where
+      go : (c d : Bool) → p x ≡ c → q x ≡ d → keep p (keep q xs) ≡ keep p xs
+          → keep p (cond d (x ∷ keep q xs) (keep q xs)) ≡ cond c (x ∷ keep p xs) (keep p xs)
+      go c true e f r = ap (λ (b : Bool). cond b (x ∷ keep p (keep q xs)) (keep p (keep q xs))) e ∙ ap (λ (l : List A). cond c (x ∷ l) l) r
+      go true false e f r = absurd (false≢true (sym f ∙ a .0 e))
+      go false false e f r = r
 
 module _ {A B : Type 0} where
   pub all-under : (P : B → Type 0) (f : A → B) (xs : List A) → All (λ x. P (f x)) xs → All P (map f xs)

@@ -12,7 +12,7 @@ use Rattle.laws.specs.Bools.{bit, allBools}
 use Rattle.laws.specs.Ranges.{each, all, sum}
 use Rattle.laws.specs.Lists.{keep}
 use Rattle.laws.proofs.Bools.{bit-le, bools-at, T-true}
-use Rattle.laws.proofs.Ranges.{all-at, all-at2, each-at, each-ones, each-nil}
+use Rattle.laws.proofs.Ranges.{all-at, all-at2, each-at, each-ones, each-nil, each-same}
 use Rattle.tables.specs.Edges.{du, dv, dw, cornerOf}
 use Rattle.tables.specs.Tets.{tetLabel, tetCorner, edgeIn}
 use Rattle.tables.specs.Cases.{Tri, mtRow}
@@ -245,3 +245,35 @@ module _ (n : Sides) (s : List Float) (h : Float) (edges : List ℕ) where
             go (suc (suc (suc (suc (suc (suc zero)))))) h a0 a1 a2 a3 a4 a5 a6 a7 = omega arith
             go (suc (suc (suc (suc (suc (suc (suc zero))))))) h a0 a1 a2 a3 a4 a5 a6 a7 = omega arith
             go (suc (suc (suc (suc (suc (suc (suc (suc c)))))))) h a0 a1 a2 a3 a4 a5 a6 a7 = absurd (omega arith)
+
+-- ---- the cases by the samples of the corners
+
+-- the sample of corner i of tetrahedron t of the cell at (u, v, w)
+unfoldable pub cornerSample : Sides → List Float → ℕ → ℕ → ℕ → ℕ → ℕ → Sample
+cornerSample n s u v w t i = let c = tetCorner t i in sampleAt n s (step (du c) u) (step (dv c) v) (step (dw c) w)
+
+module _ (n : Sides) (s : List Float) (h : Float) (edges : List ℕ) (u v w : ℕ) where
+  corner-code : (c : ℕ) → c < 8 → codeOf (sampleAt n s (step (du c) u) (step (dv c) v) (step (dw c) w)) h
+      ≡ code (at (cornersOf (okAt (fieldOf n s h edges)) u v w) c) (at (cornersOf (sideAt (fieldOf n s h edges)) u v w) c)
+  corner-code c l =
+      sample-code n s h edges (step (du c) u) (step (dv c) v) (step (dw c) w)
+      ∙ ap₂ code (sym (at-corner (okAt (fieldOf n s h edges)) u v w c l)) (sym (at-corner (sideAt (fieldOf n s h edges)) u v w c l))
+
+  pub cases-samples : casesAt (fieldOf n s h edges) u v w
+      ≡ each 6 (λ t. caseFrom (cornerSample n s u v w t 0) (cornerSample n s u v w t 1) (cornerSample n s u v w t 2) (cornerSample n s u v w t 3) h ∷ [])
+  unfolding casesAt caseNo tetOk caseOf cornerSample
+  cases-samples =
+      each-same 6 _ _ (λ t l.
+      let ok = cornersOf (okAt (fieldOf n s h edges)) u v w in
+      let side = cornersOf (sideAt (fieldOf n s h edges)) u v w in
+      let a = tetCorner t 0 in
+      let b = tetCorner t 1 in
+      let c = tetCorner t 2 in
+      let d = tetCorner t 3 in
+      let p = corner-code a (corner-lt t 0 l (lit< tt)) in
+      let q = corner-code b (corner-lt t 1 l (lit< tt)) in
+      let r = corner-code c (corner-lt t 2 l (lit< tt)) in
+      let x = corner-code d (corner-lt t 3 l (lit< tt)) in
+      ap (λ (k : ℕ). k ∷ [])
+      (sym (sym (case-samples (cornerSample n s u v w t 0) (cornerSample n s u v w t 1) (cornerSample n s u v w t 2) (cornerSample n s u v w t 3) h)
+      ∙ (λ i. caseBy (p i) (q i) (r i) (x i)) ∙ case-codes (at ok a) (at ok b) (at ok c) (at ok d) (at side a) (at side b) (at side c) (at side d))))

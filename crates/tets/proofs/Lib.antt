@@ -4,3 +4,4 @@ pub mod Flat
 pub mod Places
 pub mod March
 pub mod Walk
+pub mod Finer

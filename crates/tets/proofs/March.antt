@@ -56,11 +56,11 @@ module _ (n : Sides) (u v w : ℕ) where
   in-box hu hv hw = rw (lt-ltb u (n .nu) hu, lt-ltb v (n .nv) hv, lt-ltb w (n .nw) hw)
 
 module _ (F : Field) where
-  far-missing : (u v w : ℕ) → inBox (F .box) (suc u) (suc v) (suc w) ≡ false → at (cornersOf (okAt F) u v w) 7 ≡ false
+  pub far-missing : (u v w : ℕ) → inBox (F .box) (suc u) (suc v) (suc w) ≡ false → at (cornersOf (okAt F) u v w) 7 ≡ false
   unfolding at cornersOf okAt
   far-missing u v w e = ap (λ (b : Bool). b && F .finite (siteOf (F .box) (suc u) (suc v) (suc w))) e
 
-  eight : (u v w : ℕ) → length (cornersOf (okAt F) u v w) ≡ 8
+  pub eight : (u v w : ℕ) → length (cornersOf (okAt F) u v w) ≡ 8
   unfolding cornersOf
   eight u v w = refl
 

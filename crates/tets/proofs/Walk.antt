@@ -1,30 +1,33 @@
 -- What the march's loops over cells, rows and layers need: the cells in the lists, the room, and the joined flat lists. Assumes nothing.
 use mathlib.Core.Path.{_≡_, refl, sym, ap, ap₂, _∙_, fun-ext}
 use mathlib.Core.Bool.{Bool}
+use mathlib.Core.Logic.{⊎-elim}
 use mathlib.Core.List.{List, [], _∷_}
 use Prim.Native.Nat.{ℕ, zero, suc, _+_, _*_, _-_, _/_, _≤_, _<_, pred}
 use native.Mathlib.Nat.{mul-le-mul-left, mul-le-mul, suc-mul, mul-le-mul-right, mul-comm}
 use native.Mathlib.Omega.{arith}
-use borrow.Author.Tests.{lt-ltb}
+use lib.Dec.{ltb}
+use borrow.Author.Tests.{lt-ltb, le-ltb}
 use lib.ListN.{length, getD, drop, length-drop}
 use lib.Seq.{getD-drop}
 use lib.Ieee.{Float, nan}
 use Rattle.laws.specs.Ranges.{each}
 use Rattle.laws.specs.Written.{Written}
-use Rattle.laws.proofs.Ranges.{each-same, each-le}
+use Rattle.laws.proofs.Ranges.{lt-or, each-same, each-le}
 use Rattle.laws.proofs.Written.{written-none}
 use Rattle.tables.specs.Cases.{Tri, flat}
 use Rattle.lattice.specs.declared.Sides.{Sides}
 use Rattle.lattice.specs.Sites.{SidesFit, sites, cells, siteOf}
 use Rattle.lattice.proofs.Sites.{layer-most, sites-most}
 use Rattle.sides.specs.Sides.{inside, finite}
-use Rattle.tets.specs.March.{Field, siteTris, slab, march}
+use Rattle.tets.specs.Cells.{Corners, caseNo}
+use Rattle.tets.specs.March.{Field, okAt, sideAt, casesAt, siteTris, slab, march}
 use Rattle.tets.specs.Samples.{codesOf, codeSum}
 use Rattle.tets.specs.Lists.{fieldOf, deep, layers}
 use Rattle.tets.specs.Loop.{lookUp, cellFlat, rowFlat, InTable, Placed, Lent, Lends}
 use Rattle.tets.proofs.Cases.{case-is, outside-none, inside-none}
 use Rattle.tets.proofs.Flat.{cell-flat, look-is, flat-each, flat-length}
-use Rattle.tets.proofs.March.{site-le, slab-cells, slab-le, march-pairs, pred-sub, layers-slab}
+use Rattle.tets.proofs.March.{site-le, slab-cells, slab-le, march-pairs, pred-sub, layers-ok, layers-side}
 
 -- ---- one cell
 
@@ -98,10 +101,10 @@ slab-flat-le F w =
 -- ---- the box, layer by layer
 
 -- the lists from layer w on are those of the layers from w on
-pub tail-field : (n : Sides) (s : List Float) (h : Float) (edges : List ℕ) (w : ℕ)
-    → fieldOf (deep n 2) (drop (w * (n .nu * n .nv)) s) h (drop (7 * (w * (n .nu * n .nv))) edges) ≡ layers (fieldOf n s h edges) w 2
+pub tail-field : (n : Sides) (s : List Float) (h : Float) (edges : List ℕ) (w m : ℕ)
+    → fieldOf (deep n m) (drop (w * (n .nu * n .nv)) s) h (drop (7 * (w * (n .nu * n .nv))) edges) ≡ layers (fieldOf n s h edges) w m
 unfolding fieldOf layers
-tail-field n s h edges w =
+tail-field n s h edges w m =
     let a = w * (n .nu * n .nv) in
     let at : (i : ℕ) → a + i ≡ n .nu * n .nv * w + i = λ i. ap (λ (x : ℕ). x + i) (mul-comm w (n .nu * n .nv)) in
     let f : _≡_ {A = ℕ → Bool} (λ i. finite (getD (drop a s) i nan)) (λ i. finite (getD s (n .nu * n .nv * w + i) nan)) =
@@ -111,7 +114,7 @@ tail-field n s h edges w =
     let k : _≡_ {A = ℕ → ℕ → ℕ} (λ i l. getD (drop (7 * a) edges) (7 * i + l) 0) (λ i l. getD edges (7 * (n .nu * n .nv * w + i) + l) 0) =
     fun-ext (λ i. fun-ext (λ l.
     getD-drop (7 * a) edges (7 * i + l) 0 ∙ ap (λ (j : ℕ). getD edges j 0) (shift a i l ∙ ap (λ (x : ℕ). 7 * x + l) (at i)))) in
-    λ j. record { box = deep n 2; finite = f j; side = g j; vertex = k j }
+    λ j. record { box = deep n m; finite = f j; side = g j; vertex = k j }
   where
     shift : (a i l : ℕ) → 7 * a + (7 * i + l) ≡ 7 * (a + i) + l
     shift a i l = omega arith
@@ -132,7 +135,7 @@ module _ (n : Sides) (s : List Float) (h : Float) (edges : List ℕ) where
       let F = fieldOf n s h edges in
       sym (ap flat (march-pairs F) ∙ ap (λ (k : ℕ). flat (each k (λ w. slab (layers F w 2) 0))) (pred-sub (n .nw))
       ∙ flat-each (n .nw - 1) (λ w. slab (layers F w 2) 0)
-      ∙ each-same (n .nw - 1) _ _ (λ w l. ap (λ (G : Field). flat (slab G 0)) (sym (tail-field n s h edges w))))
+      ∙ each-same (n .nw - 1) _ _ (λ w l. ap (λ (G : Field). flat (slab G 0)) (sym (tail-field n s h edges w 2))))
 
 -- where layer w starts, and what is left from there
 pub record LayerRoom (n : Sides) (s : List Float) (edges : List ℕ) (w : ℕ) : Type 0 where
@@ -170,3 +173,30 @@ box-room n s edges tris p = omega (arith, many (n .nu - 1) (n .nv - 1) (n .nw - 
 -- three numbers a triangle
 pub third : (F : Field) (n : ℕ) → n ≡ 0 + length (flat (march F)) → 3 * (n / 3) ≡ n
 third F n e = omega (arith, flat-length (march F))
+
+-- ---- the six cases of a site, by the samples from its layer's first site on
+
+-- the edge table has no part in them
+pub no-edges : (n : Sides) (s : List Float) (h : Float) (edges : List ℕ) (u v w : ℕ) → casesAt (fieldOf n s h []) u v w ≡ casesAt (fieldOf n s h edges) u v w
+unfolding casesAt okAt sideAt fieldOf
+no-edges n s h edges u v w = refl
+
+layers-cases : (F : Field) (w m : ℕ) → ltb 0 m ≡ ltb w (F .box .nw) → ltb 1 m ≡ ltb (suc w) (F .box .nw) → (u v : ℕ) → casesAt (layers F w m) u v 0 ≡ casesAt F u v w
+unfolding casesAt
+layers-cases F w m low high u v =
+    ap₂ (λ (x y : Corners). each 6 (λ t. caseNo x y t ∷ [])) (layers-ok F w m low high u v) (layers-side F w m low high u v)
+
+pub tail-cases : (n : Sides) (s : List Float) (h : Float) (edges : List ℕ) (u v w : ℕ) → w < n .nw
+    → casesAt (fieldOf (deep n (n .nw - w)) (drop (w * (n .nu * n .nv)) s) h []) u v 0 ≡ casesAt (fieldOf n s h edges) u v w
+unfolding fieldOf
+tail-cases n s h edges u v w l =
+    no-edges (deep n (n .nw - w)) (drop (w * (n .nu * n .nv)) s) h (drop (7 * (w * (n .nu * n .nv))) edges) u v 0
+    ∙ ap (λ (F : Field). casesAt F u v 0) (tail-field n s h edges w (n .nw - w))
+    ∙ layers-cases (fieldOf n s h edges) w (n .nw - w) (low (n .nw) w l) (high (n .nw) w l) u v
+  where
+    low : (k w : ℕ) → w < k → ltb 0 (k - w) ≡ ltb w k
+    low k w l = lt-ltb 0 (k - w) (omega arith) ∙ sym (lt-ltb w k l)
+    high : (k w : ℕ) → w < k → ltb 1 (k - w) ≡ ltb (suc w) k
+    high k w l =
+        ⊎-elim (λ a. lt-ltb 1 (k - w) (omega arith) ∙ sym (lt-ltb (suc w) k a)) (λ a. le-ltb 1 (k - w) (omega arith) ∙ sym (le-ltb (suc w) k a)) (lt-or (suc w) k)
+

@@ -5,3 +5,5 @@ pub mod Runs
 pub mod Samples
 pub mod Lists
 pub mod Loop
+pub mod Finer
+pub mod Examples
