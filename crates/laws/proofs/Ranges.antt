@@ -131,8 +131,10 @@ module _ {A : Type 0} where
     where
       L : List A
       L = each n (λ i. f i ∷ [])
+
       size : length (each n (λ i. f i ∷ [])) ≡ n
       size = each-ones n f
+
       last : k ≡ n → getD (each n (λ i. f i ∷ []) ++ (f n ∷ [])) k d ≡ f k
       last e =
           let q : k ≡ length (each n (λ i. f i ∷ [])) + 0 = omega (arith, size) in

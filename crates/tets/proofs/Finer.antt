@@ -256,7 +256,11 @@ module _ (F : Field) where
   named : (e : ℕ) → Crossed F e → Named F (byEdge (F .vertex) e)
   unfolding edgeNo vertexAt
   named e c = record {
-    u = c .u; v = c .v; w = c .w; l = c .l; crosses = c .crosses;
+    u = c .u;
+    v = c .v;
+    w = c .w;
+    l = c .l;
+    crosses = c .crosses;
     is = ap (byEdge (F .vertex)) (c .is) ∙ by-edge (F .vertex) (siteOf (F .box) (c .u) (c .v) (c .w)) (c .l) (label-in e c);
   }
 

@@ -120,6 +120,7 @@ tri-dropped look t case k c h e = shown-is (cornerAt look t case k 0) (cornerAt 
   where
     g : ℕ → ℕ
     g = cornerAt look t case k
+
     go : (c : ℕ) → c < 3 → cornerAt look t case k c ≡ none
         → cond (eqb (cornerAt look t case k 0) none || eqb (cornerAt look t case k 1) none || eqb (cornerAt look t case k 2) none) []
         (cond (twice (cornerAt look t case k 0) (cornerAt look t case k 1) (cornerAt look t case k 2)) []

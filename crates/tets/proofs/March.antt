@@ -1,17 +1,17 @@
 -- Laws of the march: sites without a cell give nothing, one loop over the site numbers, at most twelve triangles a cell, layers alone. Assumes nothing.
 use mathlib.Core.Path.{_≡_, refl, sym, ap, ap₂, _∙_, fun-ext}
-use mathlib.Core.Bool.{Bool, true, false, not, _&&_, _||_, cond}
+use mathlib.Core.Bool.{Bool, true, false, not, _&&_, _||_, cond, false≢true}
 use mathlib.Core.List.{List, [], _∷_, _++_, map}
 use Prim.Native.Nat.{ℕ, zero, suc, _+_, _*_, _-_, _/_, _%_, _≤_, _<_, pred}
 use native.Mathlib.Nat.{mul-comm, le-trans}
 use native.Mathlib.Omega.{arith}
-use lib.Dec.{ltb}
-use borrow.Author.Tests.{lt-ltb, le-ltb}
+use lib.Dec.{eqb, ltb}
+use borrow.Author.Tests.{lt-ltb, le-ltb, eq-eqb}
 use lib.ListN.{length, length-map}
 use Rattle.laws.specs.Bools.{bit}
 use Rattle.laws.specs.Ranges.{each}
 use Rattle.laws.specs.Lists.{keep, All}
-use Rattle.laws.proofs.Bools.{bit-le}
+use Rattle.laws.proofs.Bools.{bit-le, and-apart}
 use Rattle.laws.proofs.Lists.{keep-le, all-keep, all-map}
 use Rattle.laws.proofs.Ranges.{each-same, each-nil, each-trim, each-le, each-rows, each-all}
 use Rattle.tables.specs.Edges.{du, dv, dw}
@@ -23,7 +23,7 @@ use Rattle.lattice.specs.declared.Uvw.{Uvw}
 use Rattle.lattice.specs.Sites.{sites, cells, inBox, siteOf, uvwOf, step}
 use Rattle.lattice.proofs.Sites.{uvw-site}
 use Rattle.tets.specs.Cells.{Corners, at, caseOf, tetOk, caseNo, onEach, tetTris, cellTris}
-use Rattle.tets.specs.March.{Field, okAt, sideAt, vertexAt, cornersOf, vertexIn, proper, emitted, siteTris, slab, march}
+use Rattle.tets.specs.March.{Field, okAt, sideAt, vertexAt, cornersOf, vertexIn, resolved, proper, emitted, siteTris, slab, march}
 use Rattle.tets.specs.Lists.{deep, layers}
 use Rattle.tets.proofs.Cases.{cell-none}
 
@@ -158,12 +158,25 @@ module _ (F : Field) where
       rw (march-slabs F) (each-le (pred (n .nv) * (pred (n .nu) * 12)) (pred (n .nw)) (slab F) slab-le) in
       rw (product (pred (n .nu)) (pred (n .nv)) (pred (n .nw)), pred-sub (n .nu), pred-sub (n .nv), pred-sub (n .nw)) at a
 
--- ---- every triangle has three vertices that are there, no two the same
+  -- ---- every triangle has three vertices that are there, no two the same
 
   pub march-emitted : All (λ t. emitted t ≡ true) (march F)
   unfolding march slab siteTris
   march-emitted =
       each-all _ (F .box .nw) _ (λ w hw. each-all _ (F .box .nv) _ (λ v hv. each-all _ (F .box .nu) _ (λ u hu. all-keep emitted _)))
+
+  pub march-proper : All (λ t. (t .0 ≡ t .1 → ⊥) × (t .1 ≡ t .2 → ⊥) × (t .0 ≡ t .2 → ⊥)) (march F)
+  unfolding emitted proper
+  march-proper = all-map _ _ (λ t e. apart t (and-apart (resolved t) (proper t) e .1)) (march F) march-emitted
+    where
+      differ : (a b : ℕ) → not (eqb a b) ≡ true → a ≡ b → ⊥
+      differ a b h e = false≢true (ap not (sym (eq-eqb a b e)) ∙ h)
+
+      apart : (t : Tri) → proper t ≡ true → (t .0 ≡ t .1 → ⊥) × (t .1 ≡ t .2 → ⊥) × (t .0 ≡ t .2 → ⊥)
+      apart t h =
+          let p = and-apart (not (eqb (t .0) (t .1)) && not (eqb (t .1) (t .2))) (not (eqb (t .0) (t .2))) h in
+          let q = and-apart (not (eqb (t .0) (t .1))) (not (eqb (t .1) (t .2))) (p .0) in
+          (differ (t .0) (t .1) (q .0), differ (t .1) (t .2) (q .1), differ (t .0) (t .2) (p .1))
 
 -- ---- some layers alone: the same triangles
 

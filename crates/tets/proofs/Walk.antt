@@ -196,7 +196,7 @@ tail-cases n s h edges u v w l =
   where
     low : (k w : ℕ) → w < k → ltb 0 (k - w) ≡ ltb w k
     low k w l = lt-ltb 0 (k - w) (omega arith) ∙ sym (lt-ltb w k l)
+
     high : (k w : ℕ) → w < k → ltb 1 (k - w) ≡ ltb (suc w) k
     high k w l =
         ⊎-elim (λ a. lt-ltb 1 (k - w) (omega arith) ∙ sym (lt-ltb (suc w) k a)) (λ a. le-ltb 1 (k - w) (omega arith) ∙ sym (le-ltb (suc w) k a)) (lt-or (suc w) k)
-

@@ -310,7 +310,14 @@ pub fn march_box(samples: &[f64], edges: &[u32], tris: &mut [u32], n: Sides, h: 
     for w in 0..m {
         let a = w * nn;
         let e = 7 * a;
-        next = march_layer(&samples[a..], &edges[e..], tris, next, Sides { nu, nv, nw: 2 }, h);
+        next = march_layer(
+            &samples[a..],
+            &edges[e..],
+            tris,
+            next,
+            Sides { nu, nv, nw: 2 },
+            h,
+        );
     }
     next / 3
 }

@@ -70,7 +70,7 @@ part-march-layer-end-2 : tie.Need-part-march-layer-end-2 Inv-loop μ-loop
 part-march-layer-end-2 c = omega (arith, turn (c .before))
 
 march-layer-requires : tie.Need-march-layer-requires Inv-loop μ-loop
-march-layer-requires c κs = 
+march-layer-requires c κs =
     let at = c .before .before .before .before .loop in
     let start = c .before .before .before .before .before .before .before .before .before in
     let a = start .args in
@@ -97,7 +97,7 @@ same-length : tie.Need-same-length Inv-loop μ-loop
 same-length c = written-length (c .before .loop .inv .1)
 
 returns : tie.Need-returns Inv-loop μ-loop
-returns c = 
+returns c =
     let at = c .before .loop in
     let a = c .before .before .before .before .before .before .args in
     let w = rw (box-layers (a .n) (now (a .samples)) (a .h) (now (a .edges))) at (written-done _ (at .w) _ (at .inv .1) (at .inv .0) (c .loop-test .left)) in

@@ -35,7 +35,7 @@ add-march-tets : tie.Need-add-march-tets
 add-march-tets c = let s = c .before .before .before .before .before .before .before .before .before .before in omega (arith, cell-room (s .args .n) (now (s .args .s)) (now (s .args .edges)) (s .args .u) (s .args .v) (s .pre .0 .0) (s .pre .0 .2))
 
 march-tets-requires : tie.Need-march-tets-requires
-march-tets-requires c κs = 
+march-tets-requires c κs =
     let s = c .before .before .before .before .before .before .before .before .before .before .before in
     let a = s .args in
     ((cell-in (a .n) (now (a .s)) (now (a .edges)) (a .u) (a .v) (s .pre .0 .0) (s .pre .0 .1) (s .pre .0 .2), rw (c .before .before .before .before .before .before .before .corner-codes .ensures) (codes-coded (a .n) (now (a .s)) (a .h) (now (a .edges)) (a .u) (a .v))), s .pre .1)

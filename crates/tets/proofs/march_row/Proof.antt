@@ -32,7 +32,7 @@ loop-holds : tie.Need-loop-holds Inv-loop μ-loop
 loop-holds c = (search needs, rw each-none (written-none _ _))
 
 march-cell-requires : tie.Need-march-cell-requires Inv-loop μ-loop
-march-cell-requires c κs = 
+march-cell-requires c κs =
     let at = c .before .before .loop in
     let start = c .before .before .before .before .before .before .before in
     let a = start .args in
@@ -48,7 +48,7 @@ loop-less : tie.Need-loop-less Inv-loop μ-loop
 loop-less c = omega arith
 
 loop-again : tie.Need-loop-again Inv-loop μ-loop
-loop-again c = 
+loop-again c =
     let at = c .before .before .before .before .before .loop in
     (omega arith, written-turn _ (at .u) (at .inv .1) (c .before .before .march-cell .ensures))
 

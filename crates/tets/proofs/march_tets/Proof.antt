@@ -29,17 +29,20 @@ loop-holds : tie.Need-loop-holds Inv-loop μ-loop
 loop-holds c = (search needs, rw each-none (written-none _ _))
 
 case-at-requires : tie.Need-case-at-requires Inv-loop μ-loop
-case-at-requires c κs = (c .before .before .before .before .pre .0 .1, c .loop-test .taken)
+case-at-requires c κs = (c .before .before .before .before .pre .0 .1, search needs)
 
 march-tet-requires : tie.Need-march-tet-requires Inv-loop μ-loop
-march-tet-requires c κs = 
+march-tet-requires c κs =
     let at = c .before .before .before .loop in
     let start = c .before .before .before .before .before .before in
     let a = start .args in
     let look = lookUp (now (a .edges)) (a .i) (a .nu) (a .nn) in (
       start .pre .0 .0,
-      (c .before .before .loop-test .taken, rw (c .before .case-at .ensures) (on-lt (now (a .codes)) (at .t)),
-      written-room (λ (t : ℕ). tetFlat look t (caseOn (now (a .codes)) t)) 6 (λ t. tet-le look t (caseOn (now (a .codes)) t) (on-lt (now (a .codes)) t)) (at .t) 6 (at .inv .1) (c .before .before .loop-test .taken) (start .pre .1)),
+      (
+        c .before .before .loop-test .taken,
+        rw (c .before .case-at .ensures) (on-lt (now (a .codes)) (at .t)),
+        written-room (λ (t : ℕ). tetFlat look t (caseOn (now (a .codes)) t)) 6 (λ t. tet-le look t (caseOn (now (a .codes)) t) (on-lt (now (a .codes)) t)) (at .t) 6 (at .inv .1) (c .before .before .loop-test .taken) (start .pre .1),
+      ),
     )
 
 add-t : tie.Need-add-t Inv-loop μ-loop
@@ -49,7 +52,7 @@ loop-less : tie.Need-loop-less Inv-loop μ-loop
 loop-less c = omega arith
 
 loop-again : tie.Need-loop-again Inv-loop μ-loop
-loop-again c = 
+loop-again c =
     let at = c .before .before .before .before .before .before .loop in
     (omega arith, written-turn _ (at .t) (at .inv .1) (rw (c .before .before .before .before .case-at .ensures) at (c .before .before .march-tet .ensures)))
 

@@ -47,7 +47,7 @@ loop-less : tie.Need-loop-less Inv-loop μ-loop
 loop-less c = omega arith
 
 loop-again : tie.Need-loop-again Inv-loop μ-loop
-loop-again c = 
+loop-again c =
     let at = c .before .before .before .loop in
     (omega arith, written-turn _ (at .t) (at .inv .1) (rw (← c .case-at .ensures) (written-one (at .r) (at .t) (c .case-at .result))))
 
