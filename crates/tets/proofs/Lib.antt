@@ -5,3 +5,4 @@ pub mod Places
 pub mod March
 pub mod Walk
 pub mod Finer
+pub mod Answer

@@ -3,7 +3,7 @@ use mathlib.Core.Path.{_≡_, refl, sym, ap, ap₂, _∙_, fun-ext}
 use mathlib.Core.Bool.{Bool, true, false, not, _&&_, _||_, cond, false≢true}
 use mathlib.Core.List.{List, [], _∷_, _++_, map}
 use Prim.Native.Nat.{ℕ, zero, suc, _+_, _*_, _-_, _/_, _%_, _≤_, _<_, pred}
-use native.Mathlib.Nat.{mul-comm, le-trans}
+use native.Mathlib.Nat.{le-trans, add-zero, zero-add}
 use native.Mathlib.Omega.{arith}
 use lib.Dec.{eqb, ltb}
 use borrow.Author.Tests.{lt-ltb, le-ltb, eq-eqb}
@@ -13,7 +13,7 @@ use Rattle.laws.specs.Ranges.{each}
 use Rattle.laws.specs.Lists.{keep, All}
 use Rattle.laws.proofs.Bools.{bit-le, and-apart}
 use Rattle.laws.proofs.Lists.{keep-le, all-keep, all-map}
-use Rattle.laws.proofs.Ranges.{each-same, each-nil, each-trim, each-le, each-rows, each-all}
+use Rattle.laws.proofs.Ranges.{each-same, each-nil, each-trim, each-le, each-rows, each-add, each-all}
 use Rattle.tables.specs.Edges.{du, dv, dw}
 use Rattle.tables.specs.Tets.{tetCorner, edgeIn}
 use Rattle.tables.specs.Cases.{Tri, flat, mtRow}
@@ -180,58 +180,84 @@ module _ (F : Field) where
 
 -- ---- some layers alone: the same triangles
 
-module _ (F : Field) (w m : ℕ) (low : ltb 0 m ≡ ltb w (F .box .nw)) (high : ltb 1 m ≡ ltb (suc w) (F .box .nw)) where
-  at-low : (u v : ℕ) → F .box .nu * F .box .nv * w + siteOf (deep (F .box) m) u v 0 ≡ siteOf (F .box) u v w
+-- layer k of the m layers from layer a on
+module _ (F : Field) (a m k : ℕ) (low : ltb k m ≡ ltb (a + k) (F .box .nw)) (high : ltb (suc k) m ≡ ltb (suc (a + k)) (F .box .nw)) where
+  at-low : (u v : ℕ) → F .box .nu * F .box .nv * a + siteOf (deep (F .box) m) u v k ≡ siteOf (F .box) u v (a + k)
   unfolding siteOf
   at-low u v = omega arith
 
-  at-high : (u v : ℕ) → F .box .nu * F .box .nv * w + siteOf (deep (F .box) m) u v 1 ≡ siteOf (F .box) u v (suc w)
+  at-high : (u v : ℕ) → F .box .nu * F .box .nv * a + siteOf (deep (F .box) m) u v (suc k) ≡ siteOf (F .box) u v (suc (a + k))
   unfolding siteOf
   at-high u v = omega arith
 
-  ok-low : (u v : ℕ) → okAt (layers F w m) u v 0 ≡ okAt F u v w
+  ok-low : (u v : ℕ) → okAt (layers F a m) u v k ≡ okAt F u v (a + k)
   unfolding okAt layers inBox
   ok-low u v = ap₂ (λ (b : Bool) (s : ℕ). ltb u (F .box .nu) && ltb v (F .box .nv) && b && F .finite s) low (at-low u v)
 
-  ok-high : (u v : ℕ) → okAt (layers F w m) u v 1 ≡ okAt F u v (suc w)
+  ok-high : (u v : ℕ) → okAt (layers F a m) u v (suc k) ≡ okAt F u v (suc (a + k))
   unfolding okAt layers inBox
   ok-high u v = ap₂ (λ (b : Bool) (s : ℕ). ltb u (F .box .nu) && ltb v (F .box .nv) && b && F .finite s) high (at-high u v)
 
-  side-low : (u v : ℕ) → sideAt (layers F w m) u v 0 ≡ sideAt F u v w
+  side-low : (u v : ℕ) → sideAt (layers F a m) u v k ≡ sideAt F u v (a + k)
   unfolding sideAt layers
   side-low u v = ap (F .side) (at-low u v)
 
-  side-high : (u v : ℕ) → sideAt (layers F w m) u v 1 ≡ sideAt F u v (suc w)
+  side-high : (u v : ℕ) → sideAt (layers F a m) u v (suc k) ≡ sideAt F u v (suc (a + k))
   unfolding sideAt layers
   side-high u v = ap (F .side) (at-high u v)
 
-  vertex-both : (u v d l : ℕ) → vertexAt (layers F w m) u v (step d 0) l ≡ vertexAt F u v (step d w) l
+  vertex-both : (u v d l : ℕ) → vertexAt (layers F a m) u v (step d k) l ≡ vertexAt F u v (step d (a + k)) l
   unfolding vertexAt layers step
   vertex-both u v zero l = ap (λ (s : ℕ). F .vertex s l) (at-low u v)
   vertex-both u v (suc d) l = ap (λ (s : ℕ). F .vertex s l) (at-high u v)
 
-  vertices : (u v : ℕ) → vertexIn (vertexAt (layers F w m)) u v 0 ≡ vertexIn (vertexAt F) u v w
+  vertices : (u v : ℕ) → vertexIn (vertexAt (layers F a m)) u v k ≡ vertexIn (vertexAt F) u v (a + k)
   unfolding vertexIn
   vertices u v = fun-ext (λ e. vertex-both (step (du (e / 7)) u) (step (dv (e / 7)) v) (dw (e / 7)) (e % 7))
 
-  pub layers-ok : (u v : ℕ) → cornersOf (okAt (layers F w m)) u v 0 ≡ cornersOf (okAt F) u v w
+  pub layers-ok : (u v : ℕ) → cornersOf (okAt (layers F a m)) u v k ≡ cornersOf (okAt F) u v (a + k)
   unfolding cornersOf
   layers-ok u v = simp (ok-low, ok-high)
 
-  pub layers-side : (u v : ℕ) → cornersOf (sideAt (layers F w m)) u v 0 ≡ cornersOf (sideAt F) u v w
+  pub layers-side : (u v : ℕ) → cornersOf (sideAt (layers F a m)) u v k ≡ cornersOf (sideAt F) u v (a + k)
   unfolding cornersOf
   layers-side u v = simp (side-low, side-high)
 
-  pub layers-site : (u v : ℕ) → siteTris (layers F w m) u v 0 ≡ siteTris F u v w
+  pub layers-site : (u v : ℕ) → siteTris (layers F a m) u v k ≡ siteTris F u v (a + k)
   unfolding siteTris
   layers-site u v = rw (vertices u v, layers-ok u v, layers-side u v)
 
-  pub layers-slab : slab (layers F w m) 0 ≡ slab F w
+  pub layers-slab : slab (layers F a m) k ≡ slab F (a + k)
   unfolding slab layers
   layers-slab = each-same (F .box .nv) _ _ (λ v hv. each-same (F .box .nu) _ _ (λ u hu. layers-site u v))
+
+-- where both layers are in both boxes
+within : (F : Field) (a m k : ℕ) → suc k < m → suc (a + k) < F .box .nw → slab (layers F a m) k ≡ slab F (a + k)
+within F a m k h g =
+    layers-slab F a m k (lt-ltb k m (omega arith) ∙ sym (lt-ltb (a + k) (F .box .nw) (omega arith))) (lt-ltb (suc k) m h ∙ sym (lt-ltb (suc (a + k)) (F .box .nw) g))
 
 -- one slab from two layers: joined, they are the march
 pub march-pairs : (F : Field) → march F ≡ each (pred (F .box .nw)) (λ w. slab (layers F w 2) 0)
 march-pairs F =
     march-slabs F ∙ each-same (pred (F .box .nw)) (slab F) (λ w. slab (layers F w 2) 0)
-    (λ w h. sym (layers-slab F w 2 (sym (lt-ltb w (F .box .nw) (omega (arith, pred-sub (F .box .nw))))) (sym (lt-ltb (suc w) (F .box .nw) (omega (arith, pred-sub (F .box .nw)))))))
+    (λ w h. sym (within F w 2 0 (omega arith) (omega (arith, pred-sub (F .box .nw))) ∙ ap (slab F) (add-zero w)))
+
+part-march : (F : Field) (a b : ℕ) → ((i : ℕ) → i < b → slab (layers F a (suc b)) i ≡ slab F (a + i)) → march (layers F a (suc b)) ≡ each b (λ i. slab F (a + i))
+unfolding layers
+part-march F a b h = march-slabs (layers F a (suc b)) ∙ each-same b (slab (layers F a (suc b))) (λ i. slab F (a + i)) h
+
+first-march : (F : Field) (a b : ℕ) → ((i : ℕ) → i < b → slab (layers F a (suc b)) i ≡ slab F i) → march (layers F a (suc b)) ≡ each b (slab F)
+unfolding layers
+first-march F a b h = march-slabs (layers F a (suc b)) ∙ each-same b (slab (layers F a (suc b))) (slab F) h
+
+-- the layers 0 to a, and those from layer a on: their marches, one after the other
+pub march-append : (F : Field) (a b : ℕ) → F .box .nw ≡ suc (a + b) → march F ≡ march (layers F 0 (suc a)) ++ march (layers F a (suc b))
+march-append F a b e =
+    march-slabs F ∙ ap (λ (k : ℕ). each (pred k) (slab F)) e ∙ each-add a b (slab F)
+    ∙ ap₂ (λ (x y : List Tri). x ++ y) (sym lower) (sym upper)
+  where
+    lower : march (layers F 0 (suc a)) ≡ each a (slab F)
+    lower = first-march F 0 a (λ i h. within F 0 (suc a) i (omega arith) (omega arith) ∙ ap (slab F) (zero-add i))
+
+    upper : march (layers F a (suc b)) ≡ each b (λ i. slab F (a + i))
+    upper = part-march F a b (λ i h. within F a (suc b) i (omega arith) (omega arith))

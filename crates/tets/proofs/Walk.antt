@@ -4,7 +4,7 @@ use mathlib.Core.Bool.{Bool}
 use mathlib.Core.Logic.{⊎-elim}
 use mathlib.Core.List.{List, [], _∷_}
 use Prim.Native.Nat.{ℕ, zero, suc, _+_, _*_, _-_, _/_, _≤_, _<_, pred}
-use native.Mathlib.Nat.{mul-le-mul-left, mul-le-mul, suc-mul, mul-le-mul-right, mul-comm}
+use native.Mathlib.Nat.{add-zero, mul-le-mul-left, mul-le-mul, suc-mul, mul-le-mul-right, mul-comm}
 use native.Mathlib.Omega.{arith}
 use lib.Dec.{ltb}
 use borrow.Author.Tests.{lt-ltb, le-ltb}
@@ -181,10 +181,11 @@ pub no-edges : (n : Sides) (s : List Float) (h : Float) (edges : List ℕ) (u v 
 unfolding casesAt okAt sideAt fieldOf
 no-edges n s h edges u v w = refl
 
-layers-cases : (F : Field) (w m : ℕ) → ltb 0 m ≡ ltb w (F .box .nw) → ltb 1 m ≡ ltb (suc w) (F .box .nw) → (u v : ℕ) → casesAt (layers F w m) u v 0 ≡ casesAt F u v w
+layers-cases : (F : Field) (w m : ℕ) → ltb 0 m ≡ ltb (w + 0) (F .box .nw) → ltb 1 m ≡ ltb (suc (w + 0)) (F .box .nw) → (u v : ℕ)
+    → casesAt (layers F w m) u v 0 ≡ casesAt F u v (w + 0)
 unfolding casesAt
 layers-cases F w m low high u v =
-    ap₂ (λ (x y : Corners). each 6 (λ t. caseNo x y t ∷ [])) (layers-ok F w m low high u v) (layers-side F w m low high u v)
+    ap₂ (λ (x y : Corners). each 6 (λ t. caseNo x y t ∷ [])) (layers-ok F w m 0 low high u v) (layers-side F w m 0 low high u v)
 
 pub tail-cases : (n : Sides) (s : List Float) (h : Float) (edges : List ℕ) (u v w : ℕ) → w < n .nw
     → casesAt (fieldOf (deep n (n .nw - w)) (drop (w * (n .nu * n .nv)) s) h []) u v 0 ≡ casesAt (fieldOf n s h edges) u v w
@@ -193,10 +194,12 @@ tail-cases n s h edges u v w l =
     no-edges (deep n (n .nw - w)) (drop (w * (n .nu * n .nv)) s) h (drop (7 * (w * (n .nu * n .nv))) edges) u v 0
     ∙ ap (λ (F : Field). casesAt F u v 0) (tail-field n s h edges w (n .nw - w))
     ∙ layers-cases (fieldOf n s h edges) w (n .nw - w) (low (n .nw) w l) (high (n .nw) w l) u v
+    ∙ ap (λ (k : ℕ). casesAt (fieldOf n s h edges) u v k) (add-zero w)
   where
-    low : (k w : ℕ) → w < k → ltb 0 (k - w) ≡ ltb w k
-    low k w l = lt-ltb 0 (k - w) (omega arith) ∙ sym (lt-ltb w k l)
+    low : (k w : ℕ) → w < k → ltb 0 (k - w) ≡ ltb (w + 0) k
+    low k w l = lt-ltb 0 (k - w) (omega arith) ∙ sym (lt-ltb (w + 0) k (omega arith))
 
-    high : (k w : ℕ) → w < k → ltb 1 (k - w) ≡ ltb (suc w) k
+    high : (k w : ℕ) → w < k → ltb 1 (k - w) ≡ ltb (suc (w + 0)) k
     high k w l =
-        ⊎-elim (λ a. lt-ltb 1 (k - w) (omega arith) ∙ sym (lt-ltb (suc w) k a)) (λ a. le-ltb 1 (k - w) (omega arith) ∙ sym (le-ltb (suc w) k a)) (lt-or (suc w) k)
+        ⊎-elim (λ a. lt-ltb 1 (k - w) (omega arith) ∙ sym (lt-ltb (suc (w + 0)) k (omega arith)))
+        (λ a. le-ltb (suc zero) (k - w) (omega arith) ∙ sym (le-ltb (suc (w + 0)) k (omega arith))) (lt-or (suc w) k)
