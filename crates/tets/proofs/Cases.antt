@@ -11,7 +11,7 @@ use lib.Ieee.{Float, nan}
 use Rattle.laws.specs.Bools.{bit, allBools}
 use Rattle.laws.specs.Ranges.{each, all, sum}
 use Rattle.laws.specs.Lists.{keep}
-use Rattle.laws.proofs.Bools.{bit-le, bools-at, T-true}
+use Rattle.laws.proofs.Bools.{bit-le, bools-at}
 use Rattle.laws.proofs.Ranges.{all-at, all-at2, each-at, each-ones, each-nil, each-same}
 use Rattle.tables.specs.Edges.{du, dv, dw, cornerOf}
 use Rattle.tables.specs.Tets.{tetLabel, tetCorner, edgeIn}
@@ -23,7 +23,7 @@ use Rattle.sides.specs.Sides.{inside, finite}
 use Rattle.lattice.specs.declared.Sides.{Sides}
 use Rattle.lattice.specs.Sites.{inBox, siteOf, step}
 use Rattle.tets.specs.Cells.{Corners, at, caseOf, tetOk, caseNo, onEach, tetTris, cellTris}
-use Rattle.tets.specs.March.{Field, okAt, sideAt, vertexAt, cornersOf, vertexIn, emitted, casesAt, siteTris}
+use Rattle.tets.specs.March.{okAt, sideAt, vertexAt, cornersOf, vertexIn, emitted, casesAt, siteTris}
 use Rattle.tets.specs.Samples.{isThere, isBelow, caseFrom, sampleAt, code, codeOf, codesOf, caseBy, caseOn, codeSum}
 use Rattle.tets.specs.Lists.{fieldOf}
 use Rattle.tets.specs.Loop.{Coded}

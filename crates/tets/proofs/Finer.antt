@@ -1,10 +1,9 @@
 -- What the march's triangles are: triangles of crossed edges, under their vertices; and a finer lookup keeps every triangle that a coarser one keeps. Assumes nothing.
 use mathlib.Core.Path.{_≡_, refl, sym, ap, ap₂, _∙_, fun-ext}
-use mathlib.Core.Bool.{Bool, true, false, not, _&&_, _||_, cond, Bool·beq, true≢false, false≢true}
-use mathlib.Core.List.{List, [], _∷_, _++_, map, map-map}
+use mathlib.Core.Bool.{Bool, true, false, not, _&&_, cond, Bool·beq, false≢true}
+use mathlib.Core.List.{List, [], _∷_, map, map-map}
 use mathlib.Core.Logic.{⊎-elim}
 use Prim.Native.Nat.{ℕ, zero, suc, _+_, _*_, _/_, _%_, _≤_, _<_}
-use native.Mathlib.Nat.{le-trans, le-of-eq}
 use native.Mathlib.Omega.{arith}
 use lib.Dec.{T, eqb, ltb, eqb→eq, ltb→lt}
 use borrow.Author.Tests.{eq-eqb, eqb-true, lt-ltb, ltb-true}
@@ -13,9 +12,9 @@ use lib.Ieee.{Float}
 use Rattle.laws.specs.Bools.{bit, allBools}
 use Rattle.laws.specs.Ranges.{each, all}
 use Rattle.laws.specs.Lists.{keep, All}
-use Rattle.laws.proofs.Bools.{and-left, and-right, and-apart, and-yes, bools-at, T-true, true-T}
+use Rattle.laws.proofs.Bools.{and-left, and-right, and-apart, and-yes, bools-at, T-true}
 use Rattle.laws.proofs.Ranges.{lt-or, each-same, each-map, each-keep, each-all, all-at}
-use Rattle.laws.proofs.Lists.{keep-map, keep-keep, keep-le, all-keep, all-kept, all-map, all-under, map-all}
+use Rattle.laws.proofs.Lists.{keep-map, keep-keep, keep-le, all-kept, all-map, all-under, map-all}
 use Rattle.tables.specs.Edges.{du, dv, dw, cornerOf}
 use Rattle.tables.specs.Tets.{tetLabel, tetCorner, tetPair, tetPairs, edgeOf, edgeIn}
 use Rattle.tables.specs.Edges.{labelTo}

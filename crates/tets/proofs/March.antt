@@ -1,7 +1,7 @@
 -- Laws of the march: sites without a cell give nothing, one loop over the site numbers, at most twelve triangles a cell, layers alone. Assumes nothing.
 use mathlib.Core.Path.{_≡_, refl, sym, ap, ap₂, _∙_, fun-ext}
-use mathlib.Core.Bool.{Bool, true, false, not, _&&_, _||_, cond, false≢true}
-use mathlib.Core.List.{List, [], _∷_, _++_, map}
+use mathlib.Core.Bool.{Bool, true, false, not, _&&_, cond, false≢true}
+use mathlib.Core.List.{List, [], _++_, map}
 use Prim.Native.Nat.{ℕ, zero, suc, _+_, _*_, _-_, _/_, _%_, _≤_, _<_, pred}
 use native.Mathlib.Nat.{le-trans, add-zero, zero-add}
 use native.Mathlib.Omega.{arith}
@@ -15,8 +15,8 @@ use Rattle.laws.proofs.Bools.{bit-le, and-apart}
 use Rattle.laws.proofs.Lists.{keep-le, all-keep, all-map}
 use Rattle.laws.proofs.Ranges.{each-same, each-nil, each-trim, each-le, each-rows, each-add, each-all}
 use Rattle.tables.specs.Edges.{du, dv, dw}
-use Rattle.tables.specs.Tets.{tetCorner, edgeIn}
-use Rattle.tables.specs.Cases.{Tri, flat, mtRow}
+use Rattle.tables.specs.Tets.{tetCorner}
+use Rattle.tables.specs.Cases.{Tri}
 use Rattle.tables.proofs.Cases.{mt-two}
 use Rattle.lattice.specs.declared.Sides.{Sides}
 use Rattle.lattice.specs.declared.Uvw.{Uvw}

@@ -1,17 +1,14 @@
 -- Laws of places: where a corner's sample stands, and the offsets from a site to the corners of its cell. Assumes nothing.
-use mathlib.Core.Path.{_≡_, refl, sym, ap, _∙_}
-use mathlib.Core.Bool.{Bool, true, false, _&&_, cond}
+use mathlib.Core.Path.{_≡_}
 use mathlib.Core.List.{List}
 use Prim.Native.Nat.{ℕ, _+_, _*_, _/_, _%_, _≤_, _<_}
-use native.Mathlib.Nat.{mul-le-mul-left, mul-one}
+use native.Mathlib.Nat.{mul-le-mul-left}
 use native.Mathlib.Omega.{arith}
-use lib.Dec.{ltb}
 use borrow.Author.Tests.{lt-ltb, le-ltb}
 use lib.ListN.{length, getD}
 use lib.Ieee.{Float, nan}
 use Rattle.tables.specs.Edges.{du, dv, dw}
 use Rattle.tables.proofs.Edges.{steps-lt}
-use Rattle.sides.specs.declared.Sample.{Sample}
 use Rattle.sides.specs.declared.Sample.the-variants.{Missing, Value}
 use Rattle.lattice.specs.declared.Sides.{Sides}
 use Rattle.lattice.specs.Sites.{inBox, sites, siteOf, step}

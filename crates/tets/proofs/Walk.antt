@@ -4,7 +4,7 @@ use mathlib.Core.Bool.{Bool}
 use mathlib.Core.Logic.{⊎-elim}
 use mathlib.Core.List.{List, [], _∷_}
 use Prim.Native.Nat.{ℕ, zero, suc, _+_, _*_, _-_, _/_, _≤_, _<_, pred}
-use native.Mathlib.Nat.{add-zero, mul-le-mul-left, mul-le-mul, suc-mul, mul-le-mul-right, mul-comm}
+use native.Mathlib.Nat.{add-zero, mul-le-mul-left, mul-comm}
 use native.Mathlib.Omega.{arith}
 use lib.Dec.{ltb}
 use borrow.Author.Tests.{lt-ltb, le-ltb}
@@ -15,9 +15,10 @@ use Rattle.laws.specs.Ranges.{each}
 use Rattle.laws.specs.Written.{Written}
 use Rattle.laws.proofs.Ranges.{lt-or, each-same, each-le}
 use Rattle.laws.proofs.Written.{written-none}
-use Rattle.tables.specs.Cases.{Tri, flat}
+use Rattle.tables.specs.Cases.{flat}
 use Rattle.lattice.specs.declared.Sides.{Sides}
-use Rattle.lattice.specs.Sites.{SidesFit, sites, cells, siteOf}
+use Rattle.lattice.specs.declared.Uvw.{Uvw}
+use Rattle.lattice.specs.Sites.{SidesFit, InBox, sites, cells, siteOf}
 use Rattle.lattice.proofs.Sites.{layer-most, sites-most}
 use Rattle.sides.specs.Sides.{inside, finite}
 use Rattle.tets.specs.Cells.{Corners, caseNo}
@@ -203,3 +204,39 @@ tail-cases n s h edges u v w l =
     high k w l =
         ⊎-elim (λ a. lt-ltb 1 (k - w) (omega arith) ∙ sym (lt-ltb (suc (w + 0)) k (omega arith)))
         (λ a. le-ltb (suc zero) (k - w) (omega arith) ∙ sym (le-ltb (suc (w + 0)) k (omega arith))) (lt-or (suc w) k)
+
+-- where the site's layer starts, and what is left from there
+pub record SiteRoom (n : Sides) (s : List Float) (w : ℕ) : Type 0 where
+  pub layer : n .nu * n .nv ≤ 1024
+  pub small : w * (n .nu * n .nv) ≤ 32768
+  pub start : w * (n .nu * n .nv) ≤ length s
+
+pub site-room : (n : Sides) (s : List Float) (p : Uvw) → SidesFit n → InBox n p → sites n ≤ length s → SiteRoom n s (p .w)
+unfolding sites
+site-room n s p f b l =
+    let a : n .nu * n .nv * (p .w + 1) ≤ n .nu * n .nv * n .nw = mul-le-mul-left (n .nu * n .nv) (omega (arith, b .on-w)) in
+    let c : n .nu * n .nv * n .nw ≤ 32768 = sites-most n f in
+    record { layer = layer-most n f; small = omega arith; start = omega arith }
+
+pub site-placed : (n : Sides) (s : List Float) (p : Uvw) → SidesFit n → InBox n p → sites n ≤ length s
+    → Placed (deep n (n .nw - p .w)) (drop (p .w * (n .nu * n .nv)) s) (p .u) (p .v)
+unfolding sites
+site-placed n s p f b l = record {
+  fit = record {
+    u-some = f .u-some;
+    u-most = f .u-most;
+    v-some = f .v-some;
+    v-most = f .v-most;
+    w-some = omega (arith, b .on-w);
+    w-most = omega (arith, f .w-most);
+  };
+  samples = rw length-drop (rest (n .nu * n .nv) (p .w) (n .nw - p .w) (length s) (rw (whole (n .nw) (p .w) (b .on-w)) l));
+  on-u = b .on-u;
+  on-v = b .on-v;
+}
+  where
+    whole : (k w : ℕ) → w < k → w + (k - w) ≡ k
+    whole k w h = omega arith
+
+    rest : (x w k m : ℕ) → x * (w + k) ≤ m → x * k ≤ m - w * x
+    rest x w k m h = omega arith

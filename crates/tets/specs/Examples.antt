@@ -6,13 +6,13 @@ use Prim.Native.Nat.{ℕ, _+_, _*_}
 use lib.Dec.{eqb}
 use lib.ListN.{length}
 use lib.IntN.{pos}
-use lib.Ieee.{Float, nan, inf, fin, binary64, lt, neg, ofBits}
+use lib.Ieee.{Float, nan, inf, fin, lt, neg, ofBits}
 use Rattle.laws.specs.Bools.{bit}
 use Rattle.laws.specs.Ranges.{each}
 use Rattle.laws.specs.Lists.{keep}
 use Rattle.tables.specs.Edges.{du, dv, dw, cornerOf, labelTo}
 use Rattle.tables.specs.Tets.{tetLabel, tetCorner, tetPair, tetPairs, edgeOf, edgeIn}
-use Rattle.tables.specs.Cases.{Tri, mtRow}
+use Rattle.tables.specs.Cases.{mtRow}
 use Rattle.sides.specs.declared.Sample.{Sample}
 use Rattle.sides.specs.declared.Sample.the-variants.{Missing, Value}
 use Rattle.sides.specs.Sides.{base, inside, finite}

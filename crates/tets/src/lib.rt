@@ -9,7 +9,7 @@ ghost use lib.ListN.{length, getD};
 ghost use Rattle.laws.specs.Written.{Written};
 ghost use Rattle.tables.specs.Edges.{du, dv, dw};
 ghost use Rattle.tables.specs.Cases.{flat};
-ghost use Rattle.lattice.specs.Sites.{SidesFit, sites, step};
+ghost use Rattle.lattice.specs.Sites.{SidesFit, sites, InBox, step};
 ghost use Rattle.tets.specs.March.{casesAt, siteTris, slab, march};
 ghost use Rattle.tets.specs.Samples.{caseFrom, sampleAt, codeOf, codesOf, caseBy, caseOn, codeSum};
 ghost use Rattle.tets.specs.Lists.{fieldOf};
@@ -111,6 +111,18 @@ pub fn tetrahedron_cases(s: &[f64], n: Sides, u: usize, v: usize, h: f64) -> [us
         r[t] = case_at(&codes, t);
     }
     r
+}
+
+// The six cases of the site p of the box.
+pub fn site_cases(samples: &[f64], n: Sides, p: Uvw, h: f64) -> [usize; 6]
+    requires { ⌜ SidesFit n × InBox n p × (sites n ≤ length (now samples)) ⌝ }
+    ensures { λ r. ⌜ r ≡ casesAt (fieldOf n (now (samples .entry)) h []) (p .u) (p .v) (p .w) ⌝ }
+{
+    let nu = n.nu;
+    let nv = n.nv;
+    let nw = n.nw - p.w;
+    let a = p.w * (nu * nv);
+    tetrahedron_cases(&samples[a..], Sides { nu, nv, nw }, p.u, p.v, h)
 }
 
 // The vertex of an edge of the cell at site i, by owner and label: rows are nu sites long, layers nn.

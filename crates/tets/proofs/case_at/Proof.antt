@@ -6,11 +6,6 @@ use Rattle.tets.proofs.Cases.{label-lt, corner-by}
 use borrow.Author.Needs.{needs}
 use Rattle.tets.proofs.case_at.Statement.{statement}
 use Rattle.tets.proofs.case_at.Tie as tie
-use Rattle.tets.proofs.case_at.Reads as reads
-use Rattle.tets.proofs.case_at.Lts as lts
-use Rattle.tables.proofs.label_corner.Reads as label-corner-reads
-use Rattle.tables.proofs.tet_label.Reads as tet-label-reads
-use Rattle.tets.proofs.case_by.Reads as case-by-reads
 
 tet-label-requires : tie.Need-tet-label-requires
 tet-label-requires c κs = search needs

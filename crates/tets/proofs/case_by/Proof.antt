@@ -4,8 +4,6 @@ use Rattle.tets.specs.Samples.{caseBy}
 use borrow.Author.Needs.{needs}
 use Rattle.tets.proofs.case_by.Statement.{statement}
 use Rattle.tets.proofs.case_by.Tie as tie
-use Rattle.tets.proofs.case_by.Reads as reads
-use Rattle.tets.proofs.case_by.Lts as lts
 
 mul-x : tie.Need-mul-x
 mul-x c = search needs

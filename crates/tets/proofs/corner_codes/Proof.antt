@@ -1,6 +1,6 @@
 -- `tets::corner_codes` meets its contract. Assumes nothing.
 use borrow.Author.Needs.{needs}
-use mathlib.Core.Path.{_≡_, _∙_}
+use mathlib.Core.Path.{_≡_}
 use mathlib.Core.List.{[], _∷_}
 use Prim.Native.Nat.{ℕ, _≤_, _-_}
 use native.Mathlib.Omega.{arith}
@@ -13,10 +13,6 @@ use Rattle.lattice.specs.Sites.{step}
 use Rattle.tets.specs.Samples.{sampleAt, codeOf, codesOf}
 use Rattle.tets.proofs.corner_codes.Statement.{statement}
 use Rattle.tets.proofs.corner_codes.Tie as tie
-use Rattle.tets.proofs.corner_codes.Reads as reads
-use Rattle.tets.proofs.corner_codes.Lts as lts
-use Rattle.tets.proofs.corner_sample.Reads as corner-sample-reads
-use Rattle.tets.proofs.sample_code.Reads as sample-code-reads
 
 abbrev Inv-loop : tie.InvT-loop
 Inv-loop s n u v h r₀ c₀ r c = (c ≤ 8) × Written r₀ 0 (each c (λ (c : ℕ). codeOf (sampleAt n s (step (du c) u) (step (dv c) v) (step (dw c) 0)) h ∷ [])) r c

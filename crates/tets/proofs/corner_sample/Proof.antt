@@ -4,9 +4,6 @@ use Rattle.tets.proofs.Places.{place-lt, sample-there, sample-past-u, s
 use borrow.Author.Needs.{needs}
 use Rattle.tets.proofs.corner_sample.Statement.{statement}
 use Rattle.tets.proofs.corner_sample.Tie as tie
-use Rattle.tets.proofs.corner_sample.Reads as reads
-use Rattle.tets.proofs.corner_sample.Lts as lts
-use Rattle.lattice.proofs.site_number.Reads as site-number-reads
 
 add-x : tie.Need-add-x
 add-x c = search needs

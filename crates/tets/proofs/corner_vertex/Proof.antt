@@ -1,5 +1,4 @@
 -- `tets::corner_vertex` meets its contract. Assumes nothing.
-use mathlib.Core.Path.{_≡_, ap, _∙_}
 use Prim.Native.Nat.{_+_, _*_, _<_}
 use native.Mathlib.Omega.{arith}
 use Rattle.tables.proofs.Cases.{mt-edges}
@@ -8,11 +7,6 @@ use Rattle.tets.specs.Loop.{cornerAt}
 use borrow.Author.Needs.{needs}
 use Rattle.tets.proofs.corner_vertex.Statement.{statement}
 use Rattle.tets.proofs.corner_vertex.Tie as tie
-use Rattle.tets.proofs.corner_vertex.Reads as reads
-use Rattle.tets.proofs.corner_vertex.Lts as lts
-use Rattle.tables.proofs.mt_edge.Reads as mt-edge-reads
-use Rattle.tables.proofs.tet_slot.Reads as tet-slot-reads
-use Rattle.tets.proofs.look_up.Reads as look-up-reads
 
 mul-mt-edge : tie.Need-mul-mt-edge
 mul-mt-edge c = search needs

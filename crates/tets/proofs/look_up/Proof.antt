@@ -9,8 +9,6 @@ use Rattle.tets.proofs.Places.{steps-le}
 use borrow.Author.Needs.{needs}
 use Rattle.tets.proofs.look_up.Statement.{statement}
 use Rattle.tets.proofs.look_up.Tie as tie
-use Rattle.tets.proofs.look_up.Reads as reads
-use Rattle.tets.proofs.look_up.Lts as lts
 
 add-owner : tie.Need-add-owner
 add-owner c = search needs

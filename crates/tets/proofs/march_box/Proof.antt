@@ -1,7 +1,6 @@
 -- `tets::march_box` meets its contract. Assumes nothing.
 use borrow.Author.Needs.{needs}
-use mathlib.Core.Path.{_≡_}
-use Prim.Native.Nat.{ℕ, _+_, _*_, _≤_, _<_, _-_}
+use Prim.Native.Nat.{_*_, _≤_, _-_}
 use native.Mathlib.Omega.{arith}
 use denote.Ref.{now}
 use Rattle.laws.specs.Ranges.{each}
@@ -14,9 +13,6 @@ use Rattle.tets.specs.Lists.{fieldOf}
 use Rattle.tets.proofs.Walk.{LayerRoom, layer-room, layer-lent, tailFlat, tail-le, box-layers, box-room, third}
 use Rattle.tets.proofs.march_box.Statement.{statement}
 use Rattle.tets.proofs.march_box.Tie as tie
-use Rattle.tets.proofs.march_box.Reads as reads
-use Rattle.tets.proofs.march_box.Lts as lts
-use Rattle.tets.proofs.march_layer.Reads as march-layer-reads
 
 abbrev Inv-loop : tie.InvT-loop
 Inv-loop samples edges tris₀ h nu nv nn m next₀ w₀ tris next w = (w ≤ m) × Written tris₀ 0 (each w (tailFlat nu nv samples h edges)) tris next

@@ -1,5 +1,5 @@
 -- `tets::march_cell` meets its contract. Assumes nothing.
-use mathlib.Core.Path.{_≡_, sym, ap, _∙_}
+use mathlib.Core.Path.{sym, ap, _∙_}
 use native.Mathlib.Omega.{arith}
 use denote.Ref.{now}
 use Rattle.tets.specs.Samples.{codeSum}
@@ -7,11 +7,6 @@ use Rattle.tets.proofs.Cases.{codes-coded}
 use Rattle.tets.proofs.Walk.{cell-placed, cell-room, cell-in, cell-tris, outside-written, inside-written}
 use Rattle.tets.proofs.march_cell.Statement.{statement}
 use Rattle.tets.proofs.march_cell.Tie as tie
-use Rattle.tets.proofs.march_cell.Reads as reads
-use Rattle.tets.proofs.march_cell.Lts as lts
-use Rattle.tets.proofs.code_sum.Reads as code-sum-reads
-use Rattle.tets.proofs.corner_codes.Reads as corner-codes-reads
-use Rattle.tets.proofs.march_tets.Reads as march-tets-reads
 
 corner-codes-requires : tie.Need-corner-codes-requires
 corner-codes-requires c κs = let a = c .before .before .before .args in cell-placed (a .n) (now (a .s)) (now (a .edges)) (a .u) (a .v) (c .before .before .before .pre .0 .0) (c .before .before .before .pre .0 .1) (c .before .before .before .pre .0 .2)

@@ -1,7 +1,6 @@
 -- `tets::march_layer` meets its contract. Assumes nothing.
 use borrow.Author.Needs.{needs}
-use mathlib.Core.Path.{_≡_}
-use Prim.Native.Nat.{ℕ, _+_, _*_, _≤_, _<_, _-_}
+use Prim.Native.Nat.{ℕ, _*_, _≤_, _-_}
 use native.Mathlib.Omega.{arith}
 use denote.Ref.{now}
 use Rattle.laws.specs.Ranges.{each}
@@ -13,9 +12,6 @@ use Rattle.tets.specs.Loop.{rowFlat}
 use Rattle.tets.proofs.Walk.{row-flat-le, slab-rows}
 use Rattle.tets.proofs.march_layer.Statement.{statement}
 use Rattle.tets.proofs.march_layer.Tie as tie
-use Rattle.tets.proofs.march_layer.Reads as reads
-use Rattle.tets.proofs.march_layer.Lts as lts
-use Rattle.tets.proofs.march_row.Reads as march-row-reads
 
 abbrev Inv-loop : tie.InvT-loop
 Inv-loop s edges tris₀ at n h next₀ m v₀ tris next v = (v ≤ m) × Written tris₀ at (each v (λ (v : ℕ). rowFlat (fieldOf n s h edges) v)) tris next

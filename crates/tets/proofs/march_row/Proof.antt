@@ -1,7 +1,6 @@
 -- `tets::march_row` meets its contract. Assumes nothing.
 use borrow.Author.Needs.{needs}
-use mathlib.Core.Path.{_≡_}
-use Prim.Native.Nat.{ℕ, _+_, _*_, _≤_, _<_, _-_}
+use Prim.Native.Nat.{ℕ, _≤_, _-_}
 use native.Mathlib.Omega.{arith}
 use denote.Ref.{now}
 use Rattle.laws.specs.Ranges.{each}
@@ -15,9 +14,6 @@ use Rattle.tets.specs.Loop.{rowFlat}
 use Rattle.tets.proofs.Walk.{site-flat-le}
 use Rattle.tets.proofs.march_row.Statement.{statement}
 use Rattle.tets.proofs.march_row.Tie as tie
-use Rattle.tets.proofs.march_row.Reads as reads
-use Rattle.tets.proofs.march_row.Lts as lts
-use Rattle.tets.proofs.march_cell.Reads as march-cell-reads
 
 abbrev Inv-loop : tie.InvT-loop
 Inv-loop s edges tris₀ at n v h next₀ m u₀ tris next u = (u ≤ m) × Written tris₀ at (each u (λ (u : ℕ). flat (siteTris (fieldOf n s h edges) u v 0))) tris next

@@ -1,9 +1,9 @@
 -- `tets::march_tet` meets its contract: the triangles of the rows passed are written, and in the inner loop the corners passed are there. Assumes nothing.
 use borrow.Author.Needs.{needs}
-use mathlib.Core.Path.{_≡_, refl, sym, ap, _∙_}
+use mathlib.Core.Path.{_≡_, refl, sym, _∙_}
 use mathlib.Core.List.{List, [], _∷_}
 use mathlib.Core.Bool.{cond}
-use Prim.Native.Nat.{ℕ, _+_, _≤_, _<_, _-_, _*_}
+use Prim.Native.Nat.{ℕ, _+_, _≤_, _<_, _-_}
 use native.Mathlib.Omega.{arith}
 use native.Mathlib.Nat.{lt-of-lt-of-le}
 use lib.ListN.{length, getD, length-set}
@@ -18,12 +18,6 @@ use Rattle.tets.specs.Loop.{shown, lookUp, cornerAt, triAt, tetFlat}
 use Rattle.tets.proofs.Flat.{twice, Has, has-none, has-more, tri-dropped, tri-has, shown-le}
 use Rattle.tets.proofs.march_tet.Statement.{statement}
 use Rattle.tets.proofs.march_tet.Tie as tie
-use Rattle.tets.proofs.march_tet.Reads as reads
-use Rattle.tets.proofs.march_tet.Lts as lts
-use Rattle.tables.proofs.mt_count.Reads as mt-count-reads
-use Rattle.tets.proofs.corner_vertex.Reads as corner-vertex-reads
-use Rattle.tets.proofs.put3.Reads as put3-reads
-use Rattle.tets.proofs.repeats.Reads as repeats-reads
 
 abbrev Inv-loop : tie.InvT-loop
 Inv-loop edges tris at i nu nn t case n count k₀ v₀ c₀ k v c = (c ≤ 3) × (k ≡ k₀) × (length v ≡ 3) × Has (cornerAt (lookUp edges i nu nn) t case k₀) v c

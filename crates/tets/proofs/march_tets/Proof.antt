@@ -1,7 +1,6 @@
 -- `tets::march_tets` meets its contract. Assumes nothing.
 use borrow.Author.Needs.{needs}
-use mathlib.Core.Path.{_≡_}
-use Prim.Native.Nat.{ℕ, _+_, _*_, _≤_, _-_}
+use Prim.Native.Nat.{ℕ, _≤_, _-_}
 use native.Mathlib.Omega.{arith}
 use denote.Ref.{now}
 use Rattle.laws.specs.Ranges.{each}
@@ -14,10 +13,6 @@ use Rattle.tets.proofs.Cases.{on-lt}
 use Rattle.tets.proofs.Flat.{tet-le}
 use Rattle.tets.proofs.march_tets.Statement.{statement}
 use Rattle.tets.proofs.march_tets.Tie as tie
-use Rattle.tets.proofs.march_tets.Reads as reads
-use Rattle.tets.proofs.march_tets.Lts as lts
-use Rattle.tets.proofs.case_at.Reads as case-at-reads
-use Rattle.tets.proofs.march_tet.Reads as march-tet-reads
 
 abbrev Inv-loop : tie.InvT-loop
 Inv-loop edges tris₀ at i nu nn codes n₀ t₀ tris n t = (t ≤ 6) × Written tris₀ at (each t (λ (t : ℕ). tetFlat (lookUp edges i nu nn) t (caseOn codes t))) tris n

@@ -7,8 +7,6 @@ use native.Mathlib.Omega.{arith}
 use lib.ListN.{length-set}
 use Rattle.tets.proofs.put3.Statement.{statement}
 use Rattle.tets.proofs.put3.Tie as tie
-use Rattle.tets.proofs.put3.Reads as reads
-use Rattle.tets.proofs.put3.Lts as lts
 
 mul-tris : tie.Need-mul-tris
 mul-tris c = search needs

@@ -2,8 +2,6 @@
 use borrow.Author.Tests.{eq-eqb, ne-eqb}
 use Rattle.tets.proofs.repeats.Statement.{statement}
 use Rattle.tets.proofs.repeats.Tie as tie
-use Rattle.tets.proofs.repeats.Reads as reads
-use Rattle.tets.proofs.repeats.Lts as lts
 
 returns : tie.Need-returns
 returns c = rw (eq-eqb _ _ (c .if1 .taken))

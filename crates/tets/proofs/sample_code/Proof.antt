@@ -4,10 +4,6 @@ use Rattle.tets.specs.Samples.{code, codeOf}
 use borrow.Author.Needs.{needs}
 use Rattle.tets.proofs.sample_code.Statement.{statement}
 use Rattle.tets.proofs.sample_code.Tie as tie
-use Rattle.tets.proofs.sample_code.Reads as reads
-use Rattle.tets.proofs.sample_code.Lts as lts
-use Rattle.sides.proofs.is_finite.Reads as is-finite-reads
-use Rattle.sides.proofs.is_inside.Reads as is-inside-reads
 
 enum-told : tie.Need-enum-told
 enum-told c = search needs

@@ -4,10 +4,6 @@ use Rattle.tets.proofs.Cases.{codeOf-le, case-samples}
 use borrow.Author.Needs.{needs}
 use Rattle.tets.proofs.tet_case.Statement.{statement}
 use Rattle.tets.proofs.tet_case.Tie as tie
-use Rattle.tets.proofs.tet_case.Reads as reads
-use Rattle.tets.proofs.tet_case.Lts as lts
-use Rattle.tets.proofs.case_by.Reads as case-by-reads
-use Rattle.tets.proofs.sample_code.Reads as sample-code-reads
 
 sample-code-requires : tie.Need-sample-code-requires
 sample-code-requires c κs = search needs

@@ -14,10 +14,6 @@ use Rattle.tets.specs.Samples.{caseOn}
 use Rattle.tets.proofs.Cases.{codes-coded, case-is}
 use Rattle.tets.proofs.tetrahedron_cases.Statement.{statement}
 use Rattle.tets.proofs.tetrahedron_cases.Tie as tie
-use Rattle.tets.proofs.tetrahedron_cases.Reads as reads
-use Rattle.tets.proofs.tetrahedron_cases.Lts as lts
-use Rattle.tets.proofs.case_at.Reads as case-at-reads
-use Rattle.tets.proofs.corner_codes.Reads as corner-codes-reads
 
 abbrev Inv-loop : tie.InvT-loop
 Inv-loop s u v h codes r₀ t₀ r t = (t ≤ 6) × Written r₀ 0 (each t (λ (t : ℕ). caseOn codes t ∷ [])) r t
