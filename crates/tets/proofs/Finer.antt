@@ -362,17 +362,22 @@ unfolding fieldOf renamed
 table-field n s h edges edges′ = refl
 
 module _ (n : Sides) (s : List Float) (h : Float) (fine coarse : List ℕ) where
+  table-finer : Finer (7 * sites n) (λ e. getD fine e 0) (λ e. getD coarse e 0)
+      → Finer (7 * sites n) (byEdge (λ i l. getD fine (7 * i + l) 0)) (byEdge (λ i l. getD coarse (7 * i + l) 0))
+  table-finer R = record {
+    same = λ d e hd he q. table-look coarse d ∙ R .same d e hd he (sym (table-look fine d) ∙ q ∙ table-look fine e) ∙ sym (table-look coarse e);
+    gone = λ e he q. table-look coarse e ∙ R .gone e he (sym (table-look fine e) ∙ q);
+  }
+
+  -- The triangles of edges that the march over the coarser table keeps are among those that it keeps over the finer one, in their order.
+  pub table-kept : Finer (7 * sites n) (λ e. getD fine e 0) (λ e. getD coarse e 0)
+      → keptEdges (fieldOf n s h coarse) ≡ keep (passes (λ i l. getD coarse (7 * i + l) 0)) (keptEdges (fieldOf n s h fine))
+  unfolding fieldOf renamed
+  table-kept R = finer-kept (fieldOf n s h fine) (λ i l. getD fine (7 * i + l) 0) (λ i l. getD coarse (7 * i + l) 0) (table-finer R)
+
   pub table-longer : Finer (7 * sites n) (λ e. getD fine e 0) (λ e. getD coarse e 0) → length (march (fieldOf n s h coarse)) ≤ length (march (fieldOf n s h fine))
   unfolding fieldOf renamed
-  table-longer R =
-      let F = fieldOf n s h fine in
-      let g : ℕ → ℕ → ℕ = λ i l. getD fine (7 * i + l) 0 in
-      let f : ℕ → ℕ → ℕ = λ i l. getD coarse (7 * i + l) 0 in
-      let S : Finer (7 * sites n) (byEdge g) (byEdge f) = record {
-        same = λ d e hd he q. table-look coarse d ∙ R .same d e hd he (sym (table-look fine d) ∙ q ∙ table-look fine e) ∙ sym (table-look coarse e);
-        gone = λ e he q. table-look coarse e ∙ R .gone e he (sym (table-look fine e) ∙ q);
-      } in
-      finer-longer F g f S
+  table-longer R = finer-longer (fieldOf n s h fine) (λ i l. getD fine (7 * i + l) 0) (λ i l. getD coarse (7 * i + l) 0) (table-finer R)
 
   -- tables that agree on the edges of the box
   pub table-same : ((e : ℕ) → e < 7 * sites n → getD fine e 0 ≡ getD coarse e 0) → march (fieldOf n s h fine) ≡ march (fieldOf n s h coarse)

@@ -155,6 +155,7 @@ fn corner_vertex(
     look_up(edges, i, nu, nn, x)
 }
 
+// Whether a vertex stands twice.
 fn repeats(a: u32, b: u32, c: u32) -> bool
     ensures { λ r. ⌜ r ≡ (eqb a b || eqb b c || eqb a c) ⌝ }
 {
@@ -234,6 +235,7 @@ fn march_tets(
     n
 }
 
+// The eight numbers together: 0 where all corners are outside, 8 where all are inside.
 fn code_sum(codes: &[usize; 8]) -> usize
     requires { ⌜ Coded (now codes) ⌝ }
     ensures { λ r. ⌜ r ≡ codeSum (now (codes .entry)) ⌝ }
@@ -273,6 +275,7 @@ fn march_cell(
     march_tets(edges, tris, at, u + nu * v, nu, nn, &codes)
 }
 
+// The triangles of one row of cells of the first layer.
 fn march_row(
     s: &[f64],
     edges: &[u32],

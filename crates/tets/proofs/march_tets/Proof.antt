@@ -35,7 +35,7 @@ march-tet-requires c κs =
       start .pre .0 .0,
       (
         c .before .before .loop-test .taken,
-        rw (c .before .case-at .ensures) (on-lt (now (a .codes)) (at .t)),
+        rw (c .before .case-at .ensures) (on-lt (now (a .codes)) _),
         written-room (λ (t : ℕ). tetFlat look t (caseOn (now (a .codes)) t)) 6 (λ t. tet-le look t (caseOn (now (a .codes)) t) (on-lt (now (a .codes)) t)) (at .t) 6 (at .inv .1) (c .before .before .loop-test .taken) (start .pre .1),
       ),
     )
