@@ -351,6 +351,46 @@ module _ (F : Field) (g f : ℕ → ℕ → ℕ) (R : Finer (7 * sites (F .box))
       let c : length (keptEdges (renamed F f)) ≤ length (keptEdges (renamed F g)) = rw finer-kept (keep-le (passes f) (keptEdges (renamed F g))) in
       omega arith
 
+-- ---- vertices under other names
+
+all-any : {A : Type 0} (P : A → Type 0) → ((x : A) → P x) → (xs : List A) → All P xs
+unfolding All
+all-any P f [] = tt
+all-any P f (x ∷ xs) = (f x, all-any P f xs)
+
+module _ (F : Field) (g : ℕ → ℕ → ℕ) (r : ℕ → ℕ) (keeps : r none ≡ none) where
+  same-name : (x y : ℕ) → eqb x y ≡ true → eqb (r x) (r y) ≡ true
+  same-name x y e = eq-eqb (r x) (r y) (ap r (eqb-true x y e))
+
+  no-name : (x : ℕ) → eqb x none ≡ true → eqb (r x) none ≡ true
+  no-name x e = eq-eqb (r x) none (ap r (eqb-true x none e) ∙ keeps)
+
+  still : (t : Tri) → emitted (onEach r t) ≡ true → emitted t ≡ true
+  unfolding emitted resolved proper onEach
+  still t e =
+      let p = and-apart (resolved (onEach r t)) (proper (onEach r t)) e in
+      and-yes
+      (three-down (eqb (r (t .0)) none) (eqb (r (t .1)) none) (eqb (r (t .2)) none) (eqb (t .0) none) (eqb (t .1) none) (eqb (t .2) none)
+      (no-name (t .0)) (no-name (t .1)) (no-name (t .2)) (p .0))
+      (three-down (eqb (r (t .0)) (r (t .1))) (eqb (r (t .1)) (r (t .2))) (eqb (r (t .0)) (r (t .2))) (eqb (t .0) (t .1)) (eqb (t .1) (t .2)) (eqb (t .0) (t .2))
+      (same-name (t .0) (t .1)) (same-name (t .1) (t .2)) (same-name (t .0) (t .2)) (p .1))
+
+  both-names : (l : List Tri) → map (onEach r) (map (onEach (byEdge g)) l) ≡ map (onEach (byEdge (λ s e. r (g s e)))) l
+  unfolding onEach byEdge
+  both-names l = map-map (onEach r) (onEach (byEdge g)) l
+
+  -- The march with renamed vertices, some of which may fall together, is the march, renamed, less the triangles with a vertex twice.
+  pub march-renamed : march (renamed F (λ s l. r (g s l))) ≡ keep emitted (map (onEach r) (march (renamed F g)))
+  march-renamed =
+      let named : List Tri = map (onEach (byEdge g)) (edgeTris F) in
+      renamed-march F g g (λ s l. r (g s l))
+      ∙ sym (ap (λ (l : List Tri). keep emitted (map (onEach r) l)) (renamed-march F g g g)
+      ∙ keep-map emitted (onEach r) (keep emitted named)
+      ∙ ap (λ (l : List Tri). map (onEach r) l)
+      (keep-keep (λ t. emitted (onEach r t)) emitted named (all-any (λ t. emitted (onEach r t) ≡ true → emitted t ≡ true) still named))
+      ∙ sym (keep-map emitted (onEach r) named)
+      ∙ ap (λ (l : List Tri). keep emitted l) (both-names (edgeTris F)))
+
 -- ---- the same for edge tables
 
 table-look : (edges : List ℕ) (e : ℕ) → byEdge (λ i l. getD edges (7 * i + l) 0) e ≡ getD edges e 0
