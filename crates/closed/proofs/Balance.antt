@@ -5,32 +5,18 @@ use mathlib.Core.Bool.{Bool, true}
 use mathlib.Core.List.{map}
 use Prim.Native.Nat.{ℕ, _+_, _*_, _≤_, _<_}
 use native.Mathlib.Omega.{arith}
-use Rattle.laws.specs.Lists.{count, All}
+use Rattle.laws.specs.Lists.{count}
 use Rattle.laws.specs.Couples.{Pair, turn, fromTo, weigh}
-use Rattle.laws.proofs.Bools.{and-apart}
-use Rattle.laws.proofs.Lists.{all-keep, all-map}
-use Rattle.laws.proofs.Ranges.{each-all}
 use Rattle.laws.proofs.Couples.{turn-count, same-weigh}
-use Rattle.tables.specs.Cases.{Tri, sidesOf}
+use Rattle.tables.specs.Cases.{sidesOf}
 use Rattle.lattice.specs.Sites.{inBox, siteOf, onBorder}
-use Rattle.tets.specs.Cells.{onEach, cellTris}
-use Rattle.tets.specs.March.{Field, none, okAt, sideAt, vertexAt, cornersOf, vertexIn, resolved, proper, emitted, siteTris, slab, march}
+use Rattle.tets.specs.March.{Field, none, sideAt, vertexAt, march}
 use Rattle.tets.specs.Runs.{runs, touches}
+use Rattle.tets.proofs.March.{march-proper}
 use Rattle.closed.specs.Fit.{Fit}
 use Rattle.closed.proofs.Triangles.{runs-sides, touch-runs}
 use Rattle.closed.proofs.Telescope.{cells-even}
 use Rattle.closed.proofs.Sites.{sideOut, march-cells, low-side, high-side}
-
--- no triangle of a march has a repeated vertex
-pub march-proper : (F : Field) → All (λ t. proper t ≡ true) (march F)
-unfolding march slab siteTris emitted
-march-proper F =
-    each-all _ (F .box .nw) _ (λ w _. each-all _ (F .box .nv) _ (λ v _. each-all _ (F .box .nu) _ (λ u _.
-    all-map (λ t. emitted t ≡ true) (λ t. proper t ≡ true) kept _
-    (all-keep emitted (map (onEach (vertexIn (vertexAt F) u v w)) (cellTris (cornersOf (okAt F) u v w) (cornersOf (sideAt F) u v w)))))))
-  where
-    kept : (t : Tri) → emitted t ≡ true → proper t ≡ true
-    kept t e = and-apart (resolved t) (proper t) e .1
 
 -- the triangles on a pair are those that run it one way and those that run it the other way
 pub touch-count : (F : Field) (p q : ℕ) → count (touches p q) (march F) ≡ count (runs p q) (march F) + count (runs q p) (march F)

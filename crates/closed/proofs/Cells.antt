@@ -113,21 +113,3 @@ crossed-test side e = bools-at 8 (λ l. every (crossedIn l) (flat (cellTris alwa
 
 pub cell-crossed : (side : Corners) → length side ≡ 8 → All (λ e. crossedIn side e ≡ true) (flat (cellTris always side))
 cell-crossed side e = every-all (crossedIn side) (flat (cellTris always side)) (crossed-test side e)
-
--- ---- no triangles where the highest corner is missing: every tetrahedron has it
-
-missing-test : (ok : Corners) → length ok ≡ 8 → T (all 6 (λ t. at ok 7 || not (tetOk ok t)))
-unfolding cellKey
-missing-test ok e = bools-at 8 (λ l. all 6 (λ t. at l 7 || not (tetOk l t))) tt ok e
-
-pub cell-missing : (ok side : Corners) → length ok ≡ 8 → at ok 7 ≡ false → cellTris ok side ≡ []
-unfolding cellTris tetTris caseNo
-cell-missing ok side e h = each-nil 6 (tetTris ok side) (λ t l. rw (none t l, mt-none))
-  where
-    go : (a b : Bool) → a ≡ false → T (a || not b) → b ≡ false
-    go true b e t = absurd (true≢false e)
-    go false true e t = absurd t
-    go false false e t = refl
-
-    none : (t : ℕ) → t < 6 → tetOk ok t ≡ false
-    none t l = go (at ok 7) (tetOk ok t) h (all-at 6 (λ t. at ok 7 || not (tetOk ok t)) (missing-test ok e) t l)

@@ -23,7 +23,8 @@ use Rattle.closed.proofs.Triangles.{runs-sides}
 use Rattle.closed.proofs.Telescope.{cellAt, cellRuns, box-runs, corners-8}
 use Rattle.closed.proofs.Sites.{cell-edge, sideOut, corners-in, cell-outer, march-cells}
 use Rattle.closed.proofs.Shared.{cellSides, Fine, all-fine, meet-once}
-use Rattle.closed.proofs.Balance.{march-proper, touch-count, twice-closed}
+use Rattle.tets.proofs.March.{march-proper}
+use Rattle.closed.proofs.Balance.{touch-count, twice-closed}
 
 -- the sides of the triangles that are kept are among those of all
 sides-keep : (p q : ℕ) (f : Tri → Bool) (ts : List Tri) → count (fromTo p q) (sidesOf (keep f ts)) ≤ count (fromTo p q) (sidesOf ts)

@@ -20,9 +20,10 @@ use Rattle.lattice.proofs.OtherEnds.{box-in, in-box}
 use Rattle.tets.specs.Cells.{Corners, at, onEach, cellTris}
 use Rattle.tets.specs.March.{Field, none, okAt, sideAt, vertexAt, cornersOf, vertexIn, resolved, proper, emitted, siteTris, slab, march}
 use Rattle.tets.specs.Runs.{crossed}
+use Rattle.tets.proofs.March.{site-none}
 use Rattle.closed.specs.Fit.{Fit}
 use Rattle.closed.proofs.Boxes.{on, stepOn, stepOn-lt, above}
-use Rattle.closed.proofs.Cells.{always, cellKey, crossedIn, CrossedIn, crossed-in, cell-crossed, cell-missing}
+use Rattle.closed.proofs.Cells.{always, cellKey, crossedIn, CrossedIn, crossed-in, cell-crossed}
 use Rattle.closed.proofs.Telescope.{cellAt, cellsOf, corners-8}
 
 -- ---- corners
@@ -86,17 +87,7 @@ cell-edge F u v w b e h =
     (above-above (inBox (F .box)) l e g u v w ∙ box-corner (F .box) u v w (c + k) b)
     (rw (above-above (sideAt F) l e g u v w, ← at-corner (sideAt F) u v w c (g .owner), ← at-corner (sideAt F) u v w (c + k) (g .inside)) (g .apart))
 
--- ---- a site whose highest corner is past the box has no triangle
-
-site-missing : (F : Field) (u v w : ℕ) → inBox (F .box) (suc u) (suc v) (suc w) ≡ false → at (cornersOf (okAt F) u v w) 7 ≡ false
-unfolding at cornersOf okAt
-site-missing F u v w b = rw b
-
-pub site-none : (F : Field) (u v w : ℕ) → inBox (F .box) (suc u) (suc v) (suc w) ≡ false → siteTris F u v w ≡ []
-unfolding siteTris keep
-site-none F u v w b = rw (cell-missing (cornersOf (okAt F) u v w) (cornersOf (sideAt F) u v w) (corners-8 (okAt F) u v w) (site-missing F u v w b))
-
--- nor has a cell with all corners on one side
+-- ---- a cell with all corners on one side has no triangle
 cell-plain : (o : Bool) (u v w : ℕ) → cellTris always (cornersOf (λ u v w. o) u v w) ≡ []
 unfolding cellKey cornersOf
 cell-plain true u v w = refl

@@ -1,5 +1,4 @@
 -- What the theorems are stated with: their premises, and the segments on the faces of a cell.
 pub mod Fit
 pub mod Faces
-pub mod Slabs
 pub mod Numbered

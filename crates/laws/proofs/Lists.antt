@@ -139,6 +139,16 @@ module _ {A B : Type 0} where
   map-agree f g [] a = refl
   map-agree f g (x ∷ xs) a = ap₂ (λ (y : B) (l : List B). y ∷ l) (a .0) (map-agree f g xs (a .1))
 
+  pub keep-map : (p : B → Bool) (f : A → B) (xs : List A) → keep p (map f xs) ≡ map f (keep (λ x. p (f x)) xs)
+  unfolding keep
+  keep-map p f [] = refl
+  keep-map p f (x ∷ xs) = go (p (f x)) (keep-map p f xs)
+    where
+      go : (c : Bool) → keep p (map f xs) ≡ map f (keep (λ y. p (f y)) xs)
+          → cond c (f x ∷ keep p (map f xs)) (keep p (map f xs)) ≡ map f (cond c (x ∷ keep (λ y. p (f y)) xs) (keep (λ y. p (f y)) xs))
+      go true e = ap (λ (l : List B). f x ∷ l) e
+      go false e = e
+
   pub total-map : (f : B → ℕ) (g : A → B) (xs : List A) → total f (map g xs) ≡ total (λ x. f (g x)) xs
   unfolding total
   total-map f g [] = refl
@@ -354,6 +364,18 @@ module _ {A : Type 0} where
       go true r = (a .0, r)
       go false r = r
 
+  -- a test after one that is weaker on the members
+  pub keep-keep : (p q : A → Bool) (xs : List A) → All (λ x. p x ≡ true → q x ≡ true) xs → keep p (keep q xs) ≡ keep p xs
+  unfolding All keep
+  keep-keep p q [] a = refl
+  keep-keep p q (x ∷ xs) a = go (p x) (q x) refl refl (keep-keep p q xs (a .1))
+    where
+      go : (c d : Bool) → p x ≡ c → q x ≡ d → keep p (keep q xs) ≡ keep p xs
+          → keep p (cond d (x ∷ keep q xs) (keep q xs)) ≡ cond c (x ∷ keep p xs) (keep p xs)
+      go c true e f r = ap (λ (b : Bool). cond b (x ∷ keep p (keep q xs)) (keep p (keep q xs))) e ∙ ap (λ (l : List A). cond c (x ∷ l) l) r
+      go true false e f r = absurd (false≢true (sym f ∙ a .0 e))
+      go false false e f r = r
+
 module _ {A B : Type 0} where
   pub joined-append : (f : A → List B) (xs ys : List A) → joined (map f (xs ++ ys)) ≡ joined (map f xs) ++ joined (map f ys)
   unfolding joined
@@ -365,6 +387,11 @@ module _ {A B : Type 0} where
   unfolding All joined
   all-joined P Q f h [] a = tt
   all-joined P Q f h (x ∷ xs) a = all-append Q (f x) (joined (map f xs)) (h x (a .0)) (all-joined P Q f h xs (a .1))
+
+  pub all-under : (P : B → Type 0) (f : A → B) (xs : List A) → All (λ x. P (f x)) xs → All P (map f xs)
+  unfolding All
+  all-under P f [] a = tt
+  all-under P f (x ∷ xs) a = (a .0, all-under P f xs (a .1))
 
 key-times : (c : Bool) (a n m : ℕ) → m ≡ n * a → cond c a 0 + m ≡ (bit c + n) * a
 unfolding bit

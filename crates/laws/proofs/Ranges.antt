@@ -199,10 +199,17 @@ module _ {A : Type 0} where
       ap (λ (j : ℕ). getD (each n (λ i. f i ∷ []) ++ f n ∷ []) j d) q ∙ getD-at (each n (λ i. f i ∷ [])) (f n) [] d n (each-one-length n f) ∙ ap f (sym q))
       (lt-or k n)
 
-pub each-map : {A B : Type 0} (g : A → B) (n : ℕ) (f : ℕ → List A) → map g (each n f) ≡ each n (λ i. map g (f i))
-unfolding each
-each-map g zero f = refl
-each-map {A} {B} g (suc n) f = map-append g (each n f) (f n) ∙ ap (λ (l : List B). l ++ map g (f n)) (each-map g n f)
+module _ {A B : Type 0} where
+  pub each-map : (g : A → B) (n : ℕ) (f : ℕ → List A) → map g (each n f) ≡ each n (λ i. map g (f i))
+  unfolding each
+  each-map g zero f = refl
+  each-map g (suc n) f = map-append g (each n f) (f n) ∙ ap (λ (l : List B). l ++ map g (f n)) (each-map g n f)
+
+  -- a loop over the places of a list
+  pub each-list : (l : List A) (d : A) (g : A → List B) → each (length l) (λ k. g (getD l k d)) ≡ joined (map g l)
+  unfolding each joined
+  each-list [] d g = refl
+  each-list (x ∷ l) d g = each-first (length l) (λ k. g (getD (x ∷ l) k d)) ∙ ap (λ (r : List B). g x ++ r) (each-list l d g)
 
 -- ---- tests at every number below a bound
 

@@ -1,11 +1,11 @@
 -- Laws of appending to a lent list, one entry, one turn of a loop or one list after the other. Assumes nothing.
 use mathlib.Core.Path.{_≡_, refl, sym, ap, _∙_}
-use mathlib.Core.List.{List, [], _∷_, _++_}
+use mathlib.Core.List.{List, [], _∷_, _++_, append-nil}
 use Prim.Native.Nat.{ℕ, zero, suc, _+_, _*_, _≤_, _<_}
 use native.Mathlib.Nat.{add-zero, add-assoc, suc-add, add-suc, suc-mul, le-antisymm, mul-le-mul-right}
 use native.Mathlib.Numerals.{add-one}
 use native.Mathlib.Omega.{arith}
-use lib.ListN.{length, getD, set, take, drop, length-append}
+use lib.ListN.{length, getD, set, take, drop, length-append, drop-of-length-le}
 use lib.Seq.{sets, sets-eq, length-sets, take-suc, take-length, length-take-le}
 use Rattle.laws.specs.Ranges.{each}
 use Rattle.laws.specs.Written.{Written}
@@ -40,6 +40,13 @@ module _ {A : Type 0} where
   -- in plain words, where there is room: what was before n, the new entries, what was after them
   pub written-plain : {l vs l′ : List A} {n n′ : ℕ} → Written l n vs l′ n′ → n + length vs ≤ length l → l′ ≡ take n l ++ vs ++ drop (n + length vs) l
   written-plain {l} {vs} {l′} {n} p h = p .buf ∙ sets-eq vs l n h
+
+  -- a list written over from its first entry to its last
+  pub written-whole : {l vs l′ : List A} {n : ℕ} → Written l 0 vs l′ n → n ≡ length l → l′ ≡ vs
+  written-whole {l} {vs} {l′} {n} p e =
+      let q : length l ≡ 0 + length vs = sym e ∙ p .next in
+      let all : length l ≤ 0 + length vs = omega arith in
+      written-plain p (omega arith) ∙ ap (λ (r : List A). vs ++ r) (drop-of-length-le l all) ∙ append-nil vs
 
   -- ---- a loop that appends f 0, then f 1, ..
 

@@ -1,0 +1,242 @@
+-- What the march's loops over cells, rows and layers need: the cells in the lists, the room, and the joined flat lists. Assumes nothing.
+use mathlib.Core.Path.{_≡_, refl, sym, ap, ap₂, _∙_, fun-ext}
+use mathlib.Core.Bool.{Bool}
+use mathlib.Core.Logic.{⊎-elim}
+use mathlib.Core.List.{List, [], _∷_}
+use Prim.Native.Nat.{ℕ, zero, suc, _+_, _*_, _-_, _/_, _≤_, _<_, pred}
+use native.Mathlib.Nat.{add-zero, mul-le-mul-left, mul-comm}
+use native.Mathlib.Omega.{arith}
+use lib.Dec.{ltb}
+use borrow.Author.Tests.{lt-ltb, le-ltb}
+use lib.ListN.{length, getD, drop, length-drop}
+use lib.Seq.{getD-drop}
+use lib.Ieee.{Float, nan}
+use Rattle.laws.specs.Ranges.{each}
+use Rattle.laws.specs.Written.{Written}
+use Rattle.laws.proofs.Ranges.{lt-or, each-same, each-le}
+use Rattle.laws.proofs.Written.{written-none}
+use Rattle.tables.specs.Cases.{flat}
+use Rattle.lattice.specs.declared.Sides.{Sides}
+use Rattle.lattice.specs.declared.Uvw.{Uvw}
+use Rattle.lattice.specs.Sites.{SidesFit, InBox, sites, cells, siteOf}
+use Rattle.lattice.proofs.Sites.{layer-most, sites-most}
+use Rattle.sides.specs.Sides.{inside, finite}
+use Rattle.tets.specs.Cells.{Corners, caseNo}
+use Rattle.tets.specs.March.{Field, okAt, sideAt, casesAt, siteTris, slab, march}
+use Rattle.tets.specs.Samples.{codesOf, codeSum}
+use Rattle.tets.specs.Lists.{fieldOf, deep, layers}
+use Rattle.tets.specs.Loop.{lookUp, cellFlat, rowFlat, InTable, Placed, Lent, Lends}
+use Rattle.tets.proofs.Cases.{case-is, outside-none, inside-none}
+use Rattle.tets.proofs.Flat.{cell-flat, look-is, flat-each, flat-length}
+use Rattle.tets.proofs.March.{site-le, slab-cells, slab-le, march-pairs, pred-sub, layers-ok, layers-side}
+
+-- ---- one cell
+
+pub cell-placed : (n : Sides) (s : List Float) (edges : List ℕ) (u v : ℕ) → Lent n s edges → u + 1 < n .nu → v + 1 < n .nv → Placed n s u v
+cell-placed n s edges u v p hu hv = record { fit = p .fit; samples = p .samples; on-u = omega arith; on-v = omega arith }
+
+pub record CellRoom (n : Sides) (u v : ℕ) : Type 0 where
+  pub width : n .nu ≤ 32
+  pub layer : n .nu * n .nv ≤ 1024
+  pub ends : n .nu * v + n .nu + n .nu ≤ n .nu * n .nv
+
+pub cell-room : (n : Sides) (s : List Float) (edges : List ℕ) (u v : ℕ) → Lent n s edges → v + 1 < n .nv → CellRoom n u v
+cell-room n s edges u v p hv =
+    let a : n .nu * (v + 2) ≤ n .nu * n .nv = mul-le-mul-left (n .nu) (omega arith) in
+    record { width = p .fit .u-most; layer = layer-most n (p .fit); ends = omega arith }
+
+pub cell-in : (n : Sides) (s : List Float) (edges : List ℕ) (u v : ℕ) → Lent n s edges → u + 1 < n .nu → v + 1 < n .nv
+    → InTable edges (u + n .nu * v) (n .nu) (n .nu * n .nv)
+unfolding sites
+cell-in n s edges u v p hu hv =
+    let r = cell-room n s edges u v p hv in
+    let b : n .nu * n .nv * 2 ≤ n .nu * n .nv * n .nw = mul-le-mul-left (n .nu * n .nv) (p .two) in
+    record { site = omega (arith, r); row = r .width; layer = r .layer; room = omega (arith, r, p .table) }
+
+site-first : (n : Sides) (u v : ℕ) → siteOf n u v 0 ≡ u + n .nu * v
+unfolding siteOf
+site-first n u v = omega arith
+
+module _ (n : Sides) (s : List Float) (h : Float) (edges : List ℕ) (u v : ℕ) where
+  pub cell-tris : cellFlat (lookUp edges (u + n .nu * v) (n .nu) (n .nu * n .nv)) (codesOf n s h u v) ≡ flat (siteTris (fieldOf n s h edges) u v 0)
+  cell-tris =
+      cell-flat (fieldOf n s h edges) u v 0 (lookUp edges (u + n .nu * v) (n .nu) (n .nu * n .nv)) (codesOf n s h u v)
+      (ap (λ (i : ℕ). lookUp edges i (n .nu) (n .nu * n .nv)) (sym (site-first n u v)) ∙ look-is n s h edges u v 0)
+      (case-is n s h edges u v)
+
+  module _ (tris : List ℕ) (at : ℕ) where
+    pub outside-written : codeSum (codesOf n s h u v) ≡ 0 → Written tris at (flat (siteTris (fieldOf n s h edges) u v 0)) tris at
+    unfolding flat
+    outside-written e = rw (outside-none n s h edges u v e) (written-none tris at)
+
+    pub inside-written : codeSum (codesOf n s h u v) ≡ 8 → Written tris at (flat (siteTris (fieldOf n s h edges) u v 0)) tris at
+    unfolding flat
+    inside-written e = rw (inside-none n s h edges u v e) (written-none tris at)
+
+-- ---- rows and layers
+
+pub site-flat-le : (F : Field) (u v w : ℕ) → length (flat (siteTris F u v w)) ≤ 36
+site-flat-le F u v w = omega (arith, flat-length (siteTris F u v w), site-le F u v w)
+
+pub row-flat-le : (F : Field) (v : ℕ) → length (rowFlat F v) ≤ (F .box .nu - 1) * 36
+unfolding rowFlat
+row-flat-le F v = each-le 36 (F .box .nu - 1) (λ u. flat (siteTris F u v 0)) (λ u. site-flat-le F u v 0)
+
+pub slab-rows : (F : Field) → each (F .box .nv - 1) (rowFlat F) ≡ flat (slab F 0)
+unfolding rowFlat
+slab-rows F =
+    let n = F .box in
+    sym (ap flat (slab-cells F 0) ∙ flat-each (pred (n .nv)) (λ v. each (pred (n .nu)) (λ u. siteTris F u v 0))
+    ∙ ap₂ (λ (a b : ℕ). each a (λ v. flat (each b (λ u. siteTris F u v 0)))) (pred-sub (n .nv)) (pred-sub (n .nu))
+    ∙ each-same (n .nv - 1) _ _ (λ v l. flat-each (n .nu - 1) (λ u. siteTris F u v 0)))
+
+triple : (a b : ℕ) → 3 * (b * (a * 12)) ≡ b * (a * 36)
+triple a b = omega arith
+
+pub slab-flat-le : (F : Field) (w : ℕ) → length (flat (slab F w)) ≤ (F .box .nv - 1) * ((F .box .nu - 1) * 36)
+slab-flat-le F w =
+    let n = F .box in
+    let a : length (slab F w) ≤ (n .nv - 1) * ((n .nu - 1) * 12) = rw (pred-sub (n .nv), pred-sub (n .nu)) at (slab-le F w) in
+    omega (arith, flat-length (slab F w), triple (n .nu - 1) (n .nv - 1))
+
+-- ---- the box, layer by layer
+
+-- the lists from layer w on are those of the layers from w on
+pub tail-field : (n : Sides) (s : List Float) (h : Float) (edges : List ℕ) (w m : ℕ)
+    → fieldOf (deep n m) (drop (w * (n .nu * n .nv)) s) h (drop (7 * (w * (n .nu * n .nv))) edges) ≡ layers (fieldOf n s h edges) w m
+unfolding fieldOf layers
+tail-field n s h edges w m =
+    let a = w * (n .nu * n .nv) in
+    let at : (i : ℕ) → a + i ≡ n .nu * n .nv * w + i = λ i. ap (λ (x : ℕ). x + i) (mul-comm w (n .nu * n .nv)) in
+    let f : _≡_ {A = ℕ → Bool} (λ i. finite (getD (drop a s) i nan)) (λ i. finite (getD s (n .nu * n .nv * w + i) nan)) =
+    fun-ext (λ i. ap finite (getD-drop a s i nan ∙ ap (λ (j : ℕ). getD s j nan) (at i))) in
+    let g : _≡_ {A = ℕ → Bool} (λ i. inside (getD (drop a s) i nan) h) (λ i. inside (getD s (n .nu * n .nv * w + i) nan) h) =
+    fun-ext (λ i. ap (λ (x : Float). inside x h) (getD-drop a s i nan ∙ ap (λ (j : ℕ). getD s j nan) (at i))) in
+    let k : _≡_ {A = ℕ → ℕ → ℕ} (λ i l. getD (drop (7 * a) edges) (7 * i + l) 0) (λ i l. getD edges (7 * (n .nu * n .nv * w + i) + l) 0) =
+    fun-ext (λ i. fun-ext (λ l.
+    getD-drop (7 * a) edges (7 * i + l) 0 ∙ ap (λ (j : ℕ). getD edges j 0) (shift a i l ∙ ap (λ (x : ℕ). 7 * x + l) (at i)))) in
+    λ j. record { box = deep n m; finite = f j; side = g j; vertex = k j }
+  where
+    shift : (a i l : ℕ) → 7 * a + (7 * i + l) ≡ 7 * (a + i) + l
+    shift a i l = omega arith
+
+-- a layer's triangles, from the lists from its first site on
+unfoldable pub tailFlat : ℕ → ℕ → List Float → Float → List ℕ → ℕ → List ℕ
+tailFlat nu nv s h edges w =
+    flat (slab (fieldOf (record { nu = nu; nv = nv; nw = 2 }) (drop (w * (nu * nv)) s) h (drop (7 * (w * (nu * nv))) edges)) 0)
+
+module _ (n : Sides) (s : List Float) (h : Float) (edges : List ℕ) where
+  pub tail-le : (w : ℕ) → length (tailFlat (n .nu) (n .nv) s h edges w) ≤ (n .nv - 1) * ((n .nu - 1) * 36)
+  unfolding tailFlat fieldOf
+  tail-le w = slab-flat-le (fieldOf (deep n 2) (drop (w * (n .nu * n .nv)) s) h (drop (7 * (w * (n .nu * n .nv))) edges)) 0
+
+  pub box-layers : each (n .nw - 1) (tailFlat (n .nu) (n .nv) s h edges) ≡ flat (march (fieldOf n s h edges))
+  unfolding tailFlat fieldOf
+  box-layers =
+      let F = fieldOf n s h edges in
+      sym (ap flat (march-pairs F) ∙ ap (λ (k : ℕ). flat (each k (λ w. slab (layers F w 2) 0))) (pred-sub (n .nw))
+      ∙ flat-each (n .nw - 1) (λ w. slab (layers F w 2) 0)
+      ∙ each-same (n .nw - 1) _ _ (λ w l. ap (λ (G : Field). flat (slab G 0)) (sym (tail-field n s h edges w 2))))
+
+-- where layer w starts, and what is left from there
+pub record LayerRoom (n : Sides) (s : List Float) (edges : List ℕ) (w : ℕ) : Type 0 where
+  pub small : w * (n .nu * n .nv) ≤ 32768
+  pub samples : w * (n .nu * n .nv) + n .nu * n .nv * 2 ≤ length s
+  pub table : 7 * (w * (n .nu * n .nv)) + 7 * (n .nu * n .nv * 2) ≤ length edges
+
+pub layer-room : (n : Sides) (s : List Float) (edges tris : List ℕ) (w : ℕ) → Lends n s edges tris → w < n .nw - 1 → LayerRoom n s edges w
+unfolding sites
+layer-room n s edges tris w p h =
+    let a : n .nu * n .nv * (w + 2) ≤ n .nu * n .nv * n .nw = mul-le-mul-left (n .nu * n .nv) (omega arith) in
+    let b : n .nu * n .nv * n .nw ≤ 32768 = sites-most n (p .fit) in
+    record { small = omega arith; samples = omega (arith, p .samples); table = omega (arith, p .table) }
+
+pub layer-lent : (n : Sides) (s : List Float) (edges tris : List ℕ) (w : ℕ) → Lends n s edges tris → w < n .nw - 1
+    → Lent (deep n 2) (drop (w * (n .nu * n .nv)) s) (drop (7 * (w * (n .nu * n .nv))) edges)
+unfolding sites
+layer-lent n s edges tris w p h =
+    let r = layer-room n s edges tris w p h in
+    let f = p .fit in
+    record {
+      fit = record { u-some = f .u-some; u-most = f .u-most; v-some = f .v-some; v-most = f .v-most; w-some = omega arith; w-most = omega arith };
+      two = omega arith;
+      samples = rw length-drop (omega (arith, r));
+      table = rw length-drop (omega (arith, r));
+    }
+
+many : (a b c : ℕ) → c * (b * (a * 36)) ≡ 36 * (a * b * c)
+many a b c = omega arith
+
+pub box-room : (n : Sides) (s : List Float) (edges tris : List ℕ) → Lends n s edges tris → 0 + (n .nw - 1) * ((n .nv - 1) * ((n .nu - 1) * 36)) ≤ length tris
+unfolding cells
+box-room n s edges tris p = omega (arith, many (n .nu - 1) (n .nv - 1) (n .nw - 1), p .room)
+
+-- three numbers a triangle
+pub third : (F : Field) (n : ℕ) → n ≡ 0 + length (flat (march F)) → 3 * (n / 3) ≡ n
+third F n e = omega (arith, flat-length (march F))
+
+-- ---- the six cases of a site, by the samples from its layer's first site on
+
+-- the edge table has no part in them
+pub no-edges : (n : Sides) (s : List Float) (h : Float) (edges : List ℕ) (u v w : ℕ) → casesAt (fieldOf n s h []) u v w ≡ casesAt (fieldOf n s h edges) u v w
+unfolding casesAt okAt sideAt fieldOf
+no-edges n s h edges u v w = refl
+
+layers-cases : (F : Field) (w m : ℕ) → ltb 0 m ≡ ltb (w + 0) (F .box .nw) → ltb 1 m ≡ ltb (suc (w + 0)) (F .box .nw) → (u v : ℕ)
+    → casesAt (layers F w m) u v 0 ≡ casesAt F u v (w + 0)
+unfolding casesAt
+layers-cases F w m low high u v =
+    ap₂ (λ (x y : Corners). each 6 (λ t. caseNo x y t ∷ [])) (layers-ok F w m 0 low high u v) (layers-side F w m 0 low high u v)
+
+pub tail-cases : (n : Sides) (s : List Float) (h : Float) (edges : List ℕ) (u v w : ℕ) → w < n .nw
+    → casesAt (fieldOf (deep n (n .nw - w)) (drop (w * (n .nu * n .nv)) s) h []) u v 0 ≡ casesAt (fieldOf n s h edges) u v w
+unfolding fieldOf
+tail-cases n s h edges u v w l =
+    no-edges (deep n (n .nw - w)) (drop (w * (n .nu * n .nv)) s) h (drop (7 * (w * (n .nu * n .nv))) edges) u v 0
+    ∙ ap (λ (F : Field). casesAt F u v 0) (tail-field n s h edges w (n .nw - w))
+    ∙ layers-cases (fieldOf n s h edges) w (n .nw - w) (low (n .nw) w l) (high (n .nw) w l) u v
+    ∙ ap (λ (k : ℕ). casesAt (fieldOf n s h edges) u v k) (add-zero w)
+  where
+    low : (k w : ℕ) → w < k → ltb 0 (k - w) ≡ ltb (w + 0) k
+    low k w l = lt-ltb 0 (k - w) (omega arith) ∙ sym (lt-ltb (w + 0) k (omega arith))
+
+    high : (k w : ℕ) → w < k → ltb 1 (k - w) ≡ ltb (suc (w + 0)) k
+    high k w l =
+        ⊎-elim (λ a. lt-ltb 1 (k - w) (omega arith) ∙ sym (lt-ltb (suc (w + 0)) k (omega arith)))
+        (λ a. le-ltb (suc zero) (k - w) (omega arith) ∙ sym (le-ltb (suc (w + 0)) k (omega arith))) (lt-or (suc w) k)
+
+-- where the site's layer starts, and what is left from there
+pub record SiteRoom (n : Sides) (s : List Float) (w : ℕ) : Type 0 where
+  pub layer : n .nu * n .nv ≤ 1024
+  pub small : w * (n .nu * n .nv) ≤ 32768
+  pub start : w * (n .nu * n .nv) ≤ length s
+
+pub site-room : (n : Sides) (s : List Float) (p : Uvw) → SidesFit n → InBox n p → sites n ≤ length s → SiteRoom n s (p .w)
+unfolding sites
+site-room n s p f b l =
+    let a : n .nu * n .nv * (p .w + 1) ≤ n .nu * n .nv * n .nw = mul-le-mul-left (n .nu * n .nv) (omega (arith, b .on-w)) in
+    let c : n .nu * n .nv * n .nw ≤ 32768 = sites-most n f in
+    record { layer = layer-most n f; small = omega arith; start = omega arith }
+
+pub site-placed : (n : Sides) (s : List Float) (p : Uvw) → SidesFit n → InBox n p → sites n ≤ length s
+    → Placed (deep n (n .nw - p .w)) (drop (p .w * (n .nu * n .nv)) s) (p .u) (p .v)
+unfolding sites
+site-placed n s p f b l = record {
+  fit = record {
+    u-some = f .u-some;
+    u-most = f .u-most;
+    v-some = f .v-some;
+    v-most = f .v-most;
+    w-some = omega (arith, b .on-w);
+    w-most = omega (arith, f .w-most);
+  };
+  samples = rw length-drop (rest (n .nu * n .nv) (p .w) (n .nw - p .w) (length s) (rw (whole (n .nw) (p .w) (b .on-w)) l));
+  on-u = b .on-u;
+  on-v = b .on-v;
+}
+  where
+    whole : (k w : ℕ) → w < k → w + (k - w) ≡ k
+    whole k w h = omega arith
+
+    rest : (x w k m : ℕ) → x * (w + k) ≤ m → x * k ≤ m - w * x
+    rest x w k m h = omega arith

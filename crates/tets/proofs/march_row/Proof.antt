@@ -1,0 +1,73 @@
+-- `tets::march_row` meets its contract. Assumes nothing.
+use borrow.Author.Needs.{needs}
+use Prim.Native.Nat.{ℕ, _≤_, _-_}
+use native.Mathlib.Omega.{arith}
+use denote.Ref.{now}
+use Rattle.laws.specs.Ranges.{each}
+use Rattle.laws.specs.Written.{Written}
+use Rattle.laws.proofs.Ranges.{each-none}
+use Rattle.laws.proofs.Written.{written-none, written-turn, written-done, written-length, written-room}
+use Rattle.tables.specs.Cases.{flat}
+use Rattle.tets.specs.March.{siteTris}
+use Rattle.tets.specs.Lists.{fieldOf}
+use Rattle.tets.specs.Loop.{rowFlat}
+use Rattle.tets.proofs.Walk.{site-flat-le}
+use Rattle.tets.proofs.march_row.Statement.{statement}
+use Rattle.tets.proofs.march_row.Tie as tie
+
+abbrev Inv-loop : tie.InvT-loop
+Inv-loop s edges tris₀ at n v h next₀ m u₀ tris next u = (u ≤ m) × Written tris₀ at (each u (λ (u : ℕ). flat (siteTris (fieldOf n s h edges) u v 0))) tris next
+
+abbrev μ-loop : tie.MeasureT-loop
+μ-loop s edges tris₀ at n v h next₀ m u₀ tris next u = m - u
+
+sub-m : tie.Need-sub-m Inv-loop μ-loop
+sub-m c = omega arith
+
+loop-holds : tie.Need-loop-holds Inv-loop μ-loop
+loop-holds c = (search needs, rw each-none (written-none _ _))
+
+march-cell-requires : tie.Need-march-cell-requires Inv-loop μ-loop
+march-cell-requires c κs =
+    let at = c .before .before .loop in
+    let start = c .before .before .before .before .before .before .before in
+    let a = start .args in
+    let u-in = c .before .loop-test .taken in (
+      (start .pre .0 .0, omega arith, start .pre .0 .1),
+      written-room (λ (u : ℕ). flat (siteTris (fieldOf (a .n) (now (a .s)) (a .h) (now (a .edges))) u (a .v) 0)) 36 (λ u. site-flat-le (fieldOf (a .n) (now (a .s)) (a .h) (now (a .edges))) u (a .v) 0) (at .u) (a .n .nu - 1) (at .inv .1) u-in (start .pre .1),
+    )
+
+add-u : tie.Need-add-u Inv-loop μ-loop
+add-u c = omega arith
+
+loop-less : tie.Need-loop-less Inv-loop μ-loop
+loop-less c = omega arith
+
+loop-again : tie.Need-loop-again Inv-loop μ-loop
+loop-again c =
+    let at = c .before .before .before .before .before .loop in
+    (omega arith, written-turn _ (at .u) (at .inv .1) (c .before .before .march-cell .ensures))
+
+same-length : tie.Need-same-length Inv-loop μ-loop
+same-length c = written-length (c .before .loop .inv .1)
+
+returns : tie.Need-returns Inv-loop μ-loop
+unfolding rowFlat fieldOf
+returns c =
+    let at = c .before .loop in
+    written-done _ (at .u) _ (at .inv .1) (at .inv .0) (c .loop-test .left)
+
+pub march-row-spec : {M : Type 1} → statement M
+march-row-spec =
+    tie.close
+    (tie.spec
+    Inv-loop
+    μ-loop
+    sub-m
+    loop-holds
+    march-cell-requires
+    add-u
+    loop-less
+    loop-again
+    same-length
+    returns)
