@@ -1,6 +1,6 @@
 -- One cell, by tests computed at all 256 sides of its corners: its triangles close up with the segments on its faces, and all their corners are crossed edges. Assumes nothing.
 use mathlib.Core.Path.{_≡_, refl, ap}
-use mathlib.Core.Bool.{Bool, true, false, not, _&&_, _||_, Bool·beq, true≢false}
+use mathlib.Core.Bool.{Bool, true, not, _&&_, Bool·beq}
 use mathlib.Core.List.{List, [], _∷_, _++_, map}
 use Prim.Native.Nat.{ℕ, _+_, _/_, _%_, _<_}
 use native.Mathlib.Omega.{arith}
@@ -12,14 +12,14 @@ use Rattle.laws.specs.Ranges.{each, sum, all}
 use Rattle.laws.specs.Lists.{count, every, All}
 use Rattle.laws.specs.Couples.{Pair, turn, onBoth, fromTo, against, push, left, isNil, cancels}
 use Rattle.laws.proofs.Bools.{bools-at, and-apart, true-T}
-use Rattle.laws.proofs.Ranges.{each-nil, each-map, all-at, same-at}
+use Rattle.laws.proofs.Ranges.{each-map, same-at}
 use Rattle.laws.proofs.Sums.{each-count}
 use Rattle.laws.proofs.Lists.{count-append, map-append, every-all}
 use Rattle.laws.proofs.Couples.{turn-count, onBoth-turn, cancels-even}
 use Rattle.tables.specs.Edges.{cornerOf, labelTo, du, dv, dw}
 use Rattle.tables.specs.Tets.{tetLabel, tetCorner, tetPair, tetPairs, edgeOf, edgeIn}
 use Rattle.tables.specs.Cases.{Tri, flat, sidesOf, mtRow, segment}
-use Rattle.tables.proofs.Cases.{mt-none, segment-named}
+use Rattle.tables.proofs.Cases.{segment-named}
 use Rattle.tets.specs.Cells.{Corners, at, caseOf, tetOk, caseNo, onEach, tetTris, cellTris}
 use Rattle.closed.specs.Faces.{unit, segmentOn, face}
 use Rattle.closed.proofs.Boxes.{on, stepOn}

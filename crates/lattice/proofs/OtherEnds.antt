@@ -2,22 +2,20 @@
 use mathlib.Core.Path.{_≡_, refl, sym, ap, _∙_, subst}
 use mathlib.Core.Bool.{Bool, true, false, _&&_, cond}
 use mathlib.Core.Logic.{⊎-elim}
-use Prim.Native.Nat.{ℕ, zero, suc, _+_, _*_, _-_, _/_, _%_, _≤_, _<_}
-use native.Mathlib.Nat.{mul-add, mul-assoc}
+use Prim.Native.Nat.{ℕ, _+_, _*_, _-_, _/_, _%_, _≤_, _<_}
 use native.Mathlib.Omega.{arith}
 use borrow.Author.Tests.{lt-ltb, le-ltb, ltb-true, le-leb, lt-leb, leb-true}
 use lib.Dec.{ltb, leb}
-use lib.IntN.{ℤ, pos, negsuc, _+ℤ_, _-ℤ_, _*ℤ_, negℤ, negℤ-negℤ}
+use lib.IntN.{negℤ-negℤ}
 use Rattle.laws.proofs.Bools.{and-apart}
 use Rattle.laws.proofs.Ranges.{lt-or}
 use Rattle.laws.proofs.Ints.{‹_›, rep-eq, rep-same, nat, minus-suc, neg, _⊞_, _⊠_}
 use Rattle.tables.specs.declared.Delta.{Delta}
-use Rattle.tables.specs.Edges.{offset, plus, times, negative, deltas, delta, reverse, cornerOf, du, dv, dw}
+use Rattle.tables.specs.Edges.{negative, deltas, delta, reverse, cornerOf, du, dv, dw}
 use Rattle.tables.proofs.Edges.{offset-eq, reverse-delta, label-delta, along, steps-lt}
 use Rattle.lattice.specs.declared.Sides.{Sides}
 use Rattle.lattice.specs.declared.Uvw.{Uvw}
 use Rattle.lattice.specs.declared.Ijk.{Ijk}
-use Rattle.lattice.specs.declared.OtherEnd.{OtherEnd}
 use Rattle.lattice.specs.declared.OtherEnd.the-variants.{Missing, At}
 use Rattle.lattice.specs.Sites.{SidesFit, sites, inBox, InBox, siteOf, uvwOf, step, ijkOf}
 use Rattle.lattice.specs.Across.{upward, downward, acrossAt, acrossOf}

@@ -1,14 +1,14 @@
 -- The owner of an edge: gaps without overflow, labels by gaps, and that in the box it is the owner by `across`. Assumes nothing.
 use mathlib.Core.Path.{_≡_, refl, sym, ap, ap₂, _∙_, subst}
-use mathlib.Core.Bool.{Bool, true, false, _&&_, cond, true≢false, false≢true}
+use mathlib.Core.Bool.{Bool, true, false, _&&_, cond}
 use mathlib.Core.Logic.{_⊎_, inl, inr, ⊎-elim}
 use mathlib.Core.List.{List, [], _∷_}
-use Prim.Native.Nat.{ℕ, zero, suc, _+_, _*_, _-_, _^_, _≤_, _<_}
+use Prim.Native.Nat.{ℕ, zero, suc, _+_, _-_, _^_, _≤_, _<_}
 use native.Mathlib.Nat.{not-suc-le-zero, le-of-suc-le-suc}
 use native.Mathlib.Omega.{arith}
 use borrow.Author.Tests.{eq-eqb, eqb-true, lt-ltb, le-ltb}
-use lib.Dec.{T, eqb, eqb→eq, eqb-refl, ltb, ltb→lt}
-use lib.IntN.{ℤ, pos, negsuc, _+ℤ_, _-ℤ_, negℤ}
+use lib.Dec.{T, eqb, eqb-refl, ltb, ltb→lt}
+use lib.IntN.{ℤ, pos, negsuc, _-ℤ_, negℤ}
 use lib.Signed.{mag, ltZ}
 use lib.ListN.{length, getD}
 use mir.Syntax.{w64}
@@ -16,7 +16,7 @@ use mir.Val.{SFits, toZ, ofZ}
 use mir.Facts.{toZ-ofZ}
 use Rattle.laws.specs.Ranges.{all}
 use Rattle.laws.proofs.Bools.{bool-ext, and-left, and-right, T-true, true-T}
-use Rattle.laws.proofs.Ranges.{all-at, same-at}
+use Rattle.laws.proofs.Ranges.{same-at}
 use Rattle.laws.proofs.Ints.{above, under, same-parts, diff-parts, less-parts, not-less-parts, ‹_›, nat, neg, _⊞_}
 use Rattle.tables.specs.declared.Delta.{Delta}
 use Rattle.tables.specs.Edges.{offset, sameZ, same, deltas, delta}

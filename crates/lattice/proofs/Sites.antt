@@ -1,22 +1,19 @@
 -- Site numbers and coordinates, both ways round; bounds; ijk by the spanning vectors. Assumes nothing.
-use mathlib.Core.Path.{_≡_, refl, sym, ap, _∙_}
-use mathlib.Core.Bool.{Bool, true, false, _&&_}
-use Prim.Native.Nat.{ℕ, zero, suc, _+_, _*_, _/_, _%_, _-_, _^_, _≤_, _<_}
-use native.Mathlib.Nat.{mul-le-mul, mul-le-mul-left, mul-comm, mul-assoc, mul-add, add-comm, mod-lt, div-lt-iff-lt-mul, div-add-mod', le-trans}
+use mathlib.Core.Path.{_≡_, sym, ap, _∙_}
+use mathlib.Core.Bool.{true, _&&_}
+use Prim.Native.Nat.{ℕ, zero, suc, _+_, _*_, _/_, _%_, _-_, _≤_, _<_}
+use native.Mathlib.Nat.{mul-le-mul, mul-comm, mul-assoc, add-comm, mod-lt, div-lt-iff-lt-mul, div-add-mod'}
 use native.Mathlib.Omega.{arith}
 use borrow.Author.Tests.{ltb-true, leb-true, lt-ltb, le-leb}
 use lib.Arith.{digits-div, digits-mod, digits-lt}
 use lib.Dec.{ltb, leb}
-use lib.IntN.{ℤ, pos, negsuc, _+ℤ_, _-ℤ_, _*ℤ_, negℤ, subℕ}
 use Rattle.laws.proofs.Bools.{and-apart}
 use Rattle.laws.proofs.Ints.{rep-eq, nat, minus-suc, neg, _⊞_, _⊠_}
-use Rattle.tables.specs.declared.Delta.{Delta}
 use Rattle.tables.specs.Edges.{offset, plus, times, deltas, delta}
 use Rattle.tables.proofs.Edges.{offset-eq}
 use Rattle.lattice.specs.declared.Sides.{Sides}
 use Rattle.lattice.specs.declared.Uvw.{Uvw}
-use Rattle.lattice.specs.declared.Ijk.{Ijk}
-use Rattle.lattice.specs.Sites.{sideOk, sidesOk, SidesFit, sites, cells, inBox, InBox, siteOf, uvwOf, step, ijkOf}
+use Rattle.lattice.specs.Sites.{sideOk, sidesOk, SidesFit, sites, InBox, siteOf, uvwOf, step, ijkOf}
 
 -- ---- the sides
 

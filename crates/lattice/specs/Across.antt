@@ -1,10 +1,9 @@
 -- The site across an edge: labels 0 to 6 lead up to a corner of the site's cell, labels 7 to 13 lead back the same way. Assumes nothing.
-use mathlib.Core.Bool.{Bool, true, false, _&&_, cond}
+use mathlib.Core.Bool.{_&&_, cond}
 use Prim.Native.Nat.{ℕ, _-_}
 use lib.Dec.{ltb, leb}
 use Rattle.tables.specs.Edges.{cornerOf, du, dv, dw}
 use Rattle.lattice.specs.declared.Sides.{Sides}
-use Rattle.lattice.specs.declared.Uvw.{Uvw}
 use Rattle.lattice.specs.declared.OtherEnd.{OtherEnd}
 use Rattle.lattice.specs.declared.OtherEnd.the-variants.{Missing, At}
 use Rattle.lattice.specs.Sites.{siteOf, uvwOf, inBox, step}

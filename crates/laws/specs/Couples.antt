@@ -1,10 +1,8 @@
 -- Directed pairs, and lists of them in which each pair stands against one that runs the other way. Assumes nothing.
 use mathlib.Core.Bool.{Bool, true, false, _&&_, cond}
 use mathlib.Core.List.{List, [], _∷_}
-use Prim.Native.Nat.{ℕ, _+_}
+use Prim.Native.Nat.{ℕ}
 use lib.Dec.{eqb}
-use Rattle.laws.specs.Bools.{bit}
-use Rattle.laws.specs.Lists.{count}
 
 abbrev pub Pair : Type 0
 Pair = ℕ × ℕ

@@ -1,5 +1,5 @@
 -- Lists: those that pass a test, how many do, lists of lists joined, sums over a list, and what holds of every member. Assumes nothing.
-use mathlib.Core.Bool.{Bool, true, false, _&&_, cond}
+use mathlib.Core.Bool.{Bool, true, _&&_, cond}
 use mathlib.Core.List.{List, [], _∷_, _++_}
 use Prim.Native.Nat.{ℕ, _+_}
 use Rattle.laws.specs.Bools.{bit}

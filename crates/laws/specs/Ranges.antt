@@ -1,6 +1,6 @@
 -- What is done, joined, added or tested at the numbers 0, 1, .. n - 1, in this order. Assumes nothing.
 use mathlib.Core.Bool.{Bool, true, false, _&&_, _||_}
-use mathlib.Core.List.{List, [], _∷_, _++_}
+use mathlib.Core.List.{List, [], _++_}
 use Prim.Native.Nat.{ℕ, zero, suc, _+_}
 
 module _ {A : Type 0} where

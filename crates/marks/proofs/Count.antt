@@ -1,7 +1,6 @@
 -- E, the crossed edges, is the number of set bits of all masks: each crossed edge is marked once, at one of its ends. Assumes nothing.
 use mathlib.Core.Path.{_≡_, refl, sym, ap, ap₂, _∙_}
-use mathlib.Core.Bool.{Bool, true, false, not, cond, false≢true}
-use mathlib.Core.Logic.{⊎-elim}
+use mathlib.Core.Bool.{Bool, true, false, not, cond}
 use mathlib.Core.List.{List}
 use Prim.Native.Nat.{ℕ, _+_, _-_, _*_, _≤_, _<_}
 use native.Mathlib.Omega.{arith}
@@ -11,7 +10,6 @@ use lib.Count.{onesIn}
 use lib.Ieee.{Float, lt}
 use Rattle.laws.specs.Bools.{bit}
 use Rattle.laws.specs.Ranges.{sum}
-use Rattle.laws.specs.Digits.{mask}
 use Rattle.laws.proofs.Sums.{sum-same, sum-plus, sum-add, sum-swap, sum-shift, mask-ones}
 use Rattle.sides.specs.declared.Crossing.{Crossing}
 use Rattle.sides.specs.declared.Crossing.the-variants.{SameSide, At}
@@ -21,7 +19,7 @@ use Rattle.tables.proofs.Edges.{reverse-low, reverse-high}
 use Rattle.lattice.specs.declared.Sides.{Sides}
 use Rattle.lattice.specs.declared.OtherEnd.{OtherEnd}
 use Rattle.lattice.specs.declared.OtherEnd.the-variants as end
-use Rattle.lattice.specs.Sites.{SidesFit, sites, siteOf, uvwOf}
+use Rattle.lattice.specs.Sites.{SidesFit, sites, uvwOf}
 use Rattle.lattice.specs.Across.{acrossOf}
 use Rattle.lattice.proofs.Sites.{site-uvw}
 use Rattle.lattice.proofs.OtherEnds.{across-joined, across-back, above-number}

@@ -1,9 +1,9 @@
 -- A layer's work on the parts from its first site on is the box's work on its sites. Assumes nothing.
 use mathlib.Core.Path.{_≡_, refl, sym, ap, ap₂, _∙_}
 use mathlib.Core.Bool.{Bool, true, false, _&&_, cond}
-use mathlib.Core.List.{List, [], _∷_, _++_}
-use Prim.Native.Nat.{ℕ, zero, suc, _+_, _*_, _-_, _/_, _%_, _^_, _≤_, _<_}
-use native.Mathlib.Nat.{mul-comm, mul-assoc, mul-add, mod-lt, div-lt-iff-lt-mul, div-add-mod', add-comm, mul-le-mul-right, suc-mul}
+use mathlib.Core.List.{List, _++_}
+use Prim.Native.Nat.{ℕ, _+_, _*_, _-_, _/_, _%_, _^_, _≤_, _<_}
+use native.Mathlib.Nat.{mul-comm, mod-lt, div-lt-iff-lt-mul, div-add-mod', mul-le-mul-right, suc-mul}
 use native.Mathlib.Omega.{arith}
 use borrow.Author.Tests.{ltb-true, lt-ltb}
 use lib.Dec.{ltb}
@@ -24,12 +24,12 @@ use Rattle.lattice.specs.declared.Sides.{Sides}
 use Rattle.lattice.specs.declared.Uvw.{Uvw}
 use Rattle.lattice.specs.declared.OtherEnd.{OtherEnd}
 use Rattle.lattice.specs.declared.OtherEnd.the-variants as end
-use Rattle.lattice.specs.Sites.{SidesFit, sites, inBox, InBox, siteOf, uvwOf, step}
+use Rattle.lattice.specs.Sites.{SidesFit, sites, inBox, siteOf, uvwOf, step}
 use Rattle.lattice.specs.Across.{upward, acrossOf}
 use Rattle.lattice.proofs.Sites.{uvw-site, step-add}
 use Rattle.lattice.proofs.OtherEnds.{across-up}
 use Rattle.marks.specs.Marks.{sample}
-use Rattle.marks.specs.Loops.{setBit, markCrossing, markTo, markLabel, markSite, markSites, fromLayer, markLayer, layerTurn, markLayers, Room}
+use Rattle.marks.specs.Loops.{setBit, markCrossing, markTo, markLabel, markSite, markSites, fromLayer, markLayer, layerTurn, markLayers}
 
 -- ---- the site across an edge that leads up, in the box and in the box from layer w on
 

@@ -1,6 +1,6 @@
 -- The masks of the box, entry by entry and as a list: exactly those of the definition, and all that lies past the sites as it was. Assumes nothing.
 use mathlib.Core.Path.{_≡_, refl, sym, ap, _∙_}
-use mathlib.Core.Bool.{Bool, true, false, _||_, cond, false-or}
+use mathlib.Core.Bool.{Bool, true, false, _||_, cond}
 use mathlib.Core.Logic.{⊎-elim}
 use mathlib.Core.List.{List, [], _∷_, _++_}
 use Prim.Native.Nat.{ℕ, _+_, _-_, _^_, _≤_, _<_}
@@ -11,8 +11,8 @@ use lib.ListN.{getD, set, length, drop, replicate, length-set, length-replicate,
 use lib.Seq.{getD-set-same, getD-set-other, getD-append-add, ext-getD}
 use lib.Ieee.{Float, lt}
 use Rattle.laws.specs.Bools.{bit}
-use Rattle.laws.specs.Ranges.{fold, any, each}
-use Rattle.laws.specs.Digits.{digit, isSet, mask}
+use Rattle.laws.specs.Ranges.{any, each}
+use Rattle.laws.specs.Digits.{isSet, mask}
 use Rattle.laws.proofs.Ranges.{eq-or, lt-or, fold-inv, each-one-length, each-one-at}
 use Rattle.laws.proofs.Digits.{digit-is, digit-zero, digit-unset, digit-ext, mask-digit, mask-lt}
 use Rattle.sides.specs.declared.Crossing.{Crossing}

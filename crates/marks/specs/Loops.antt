@@ -1,7 +1,7 @@
 -- The marking as its loops do it: edge by edge, each crossed edge sets one bit at one of its ends. Assumes nothing.
-use mathlib.Core.Bool.{Bool, true, false, cond}
+use mathlib.Core.Bool.{cond}
 use mathlib.Core.List.{List, _++_}
-use Prim.Native.Nat.{ℕ, _+_, _*_, _-_, _^_, _≤_, _<_}
+use Prim.Native.Nat.{ℕ, _+_, _*_, _-_, _^_, _≤_}
 use lib.Bits.{bitOr}
 use lib.ListN.{getD, set, take, drop, length, replicate}
 use lib.Ieee.{Float, lt}

@@ -1,7 +1,7 @@
 -- Marks: bit e of the mask at a site is set if the edge's other end is in the box, the sides differ, and the surface is nearer to this end:
 -- for the owner's labels 0 to 6 its fraction is below 0.5, for the labels 7 to 13 the owner's fraction is not (0.5 itself and NaN mark the other end).
 -- Assumes nothing.
-use mathlib.Core.Bool.{Bool, true, false, not, cond}
+use mathlib.Core.Bool.{Bool, false, not, cond}
 use mathlib.Core.List.{List, [], _∷_}
 use Prim.Native.Nat.{ℕ}
 use lib.Dec.{ltb}

@@ -3,7 +3,7 @@ use mathlib.Core.Path.{_≡_, refl}
 use mathlib.Core.Bool.{Bool, true, false}
 use mathlib.Core.List.{List, [], _∷_, map}
 use Prim.Native.Nat.{ℕ}
-use lib.IntN.{pos, negsuc}
+use lib.IntN.{pos}
 use lib.Ieee.{Float, nan, inf, fin, binary64, lt, neg, sub, div, ofBits}
 use Rattle.sides.specs.declared.Crossing.{Crossing}
 use Rattle.sides.specs.declared.Crossing.the-variants.{SameSide, At}

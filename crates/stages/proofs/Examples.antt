@@ -1,6 +1,6 @@
 -- The definition computes the oracle's answers: masks, clusters, splits, rounds, edge table, vertex book and triangles of small boxes, from their samples. Assumes nothing.
 use mathlib.Core.Path.{_≡_, refl}
-use mathlib.Core.Bool.{Bool, true, false}
+use mathlib.Core.Bool.{Bool, true}
 use mathlib.Core.List.{List, [], _∷_, map}
 use Prim.Native.Nat.{ℕ}
 use lib.Count.{trailingZeros}
@@ -11,7 +11,7 @@ use Rattle.laws.specs.Lists.{keep, count, joined}
 use Rattle.laws.specs.Digits.{digit, isSet, mask}
 use Rattle.tables.specs.Edges.{corners, cornerOf, labelTo, du, dv, dw, areNeighbours, neighbourMask}
 use Rattle.tables.specs.Tets.{tetLabel, tetCorner, tetPairs, tetPair, edgeOf, edgeIn}
-use Rattle.tables.specs.Cases.{Tri, flat, sidesOf, mtTable, mtRow}
+use Rattle.tables.specs.Cases.{flat, sidesOf, mtTable, mtRow}
 use Rattle.tables.specs.FlatHoles.{holeOf, flatHoles, flatHole}
 use Rattle.sides.specs.Sides.{base, inside, finite, whenFinite, markFraction, crossing, isNear}
 use Rattle.lattice.specs.declared.Sides.{Sides}

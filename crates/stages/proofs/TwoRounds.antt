@@ -1,10 +1,10 @@
 -- The definition computes the oracle's answer of a box that takes two rounds, from its samples. Assumes nothing.
 use mathlib.Core.Path.{_≡_, refl}
-use mathlib.Core.Bool.{true, false}
-use mathlib.Core.List.{List, [], _∷_, map}
+use mathlib.Core.Bool.{true}
+use mathlib.Core.List.{[], _∷_, map}
 use lib.Ieee.{binary64, ofBits}
 use Rattle.tets.specs.March.{none}
-use Rattle.stages.proofs.Examples.{Input, Answer, answerOf, answer, stagesKey}
+use Rattle.stages.proofs.Examples.{Input, answerOf, answer, stagesKey}
 
 -- two rounds: 3 x 4 x 3, 52 vertices, 74 triangles, 2 split, rounds done 2
 unfoldable two-rounds : Input

@@ -1,5 +1,5 @@
 -- The box of a build, made of its samples: marks, clusters and points. Assumes nothing.
-use mathlib.Core.Bool.{Bool, true, false, _&&_}
+use mathlib.Core.Bool.{Bool, false, _&&_}
 use mathlib.Core.List.{List, [], _∷_, _++_, map}
 use Prim.Native.Nat.{ℕ}
 use lib.ListN.{take}
@@ -11,7 +11,6 @@ use Rattle.sides.specs.declared.Sample.{Sample}
 use Rattle.sides.specs.declared.Sample.the-variants as known
 use Rattle.sides.specs.Sides.{inside, finite, whenFinite}
 use Rattle.lattice.specs.declared.Sides.{Sides}
-use Rattle.lattice.specs.declared.Uvw.{Uvw}
 use Rattle.lattice.specs.declared.OtherEnd.{OtherEnd}
 use Rattle.lattice.specs.declared.OtherEnd.the-variants as end
 use Rattle.lattice.specs.Sites.{uvwOf, ijkOf}

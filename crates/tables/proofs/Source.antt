@@ -1,26 +1,23 @@
 -- The source's tables, as the check sees them, beside the definitions. Assumes nothing.
-use mathlib.Core.Path.{_≡_, refl, ap, sym, _∙_}
+use mathlib.Core.Path.{_≡_}
 use mathlib.Core.List.{List, [], _∷_, map}
 use Prim.Native.Nat.{ℕ, _+_, _*_, _<_}
-use native.Mathlib.Omega.{arith}
-use lib.Dec.{T, eqb}
 use lib.IntN.{ℤ, pos}
 use lib.ListN.{getD, length}
 use mir.Syntax.{w8}
 use mir.Val.{toZ, ofZ}
 use Rattle.laws.specs.Bools.{bit}
 use Rattle.laws.specs.Ranges.{all}
-use Rattle.laws.specs.Digits.{mask}
-use Rattle.laws.proofs.Ranges.{all-at, same-at, same-at2}
+use Rattle.laws.proofs.Ranges.{same-at, same-at2}
 use Rattle.laws.proofs.Lists.{getD-map}
 use Rattle.tables.specs.declared.Delta.{Delta}
 use Rattle.tables.specs.declared.FlatHole.{FlatHole}
 use Rattle.tables.specs.declared.Ends.{Ends}
-use Rattle.tables.specs.Edges.{offset, deltas, delta, areNeighbours, neighbourMask, reverse, same}
-use Rattle.tables.specs.FlatHoles.{holeOf, flatHoles, flatHole}
-use Rattle.tables.specs.Tets.{tetLabels, tetLabel, tetCorner, tetPairs, tetPair, edgeOf, edgeIn}
-use Rattle.tables.specs.Edges.{corners, cornerOf, labelTo}
-use Rattle.tables.specs.Cases.{flat, mtTable, mtRow}
+use Rattle.tables.specs.Edges.{offset, deltas, delta, areNeighbours, neighbourMask, reverse}
+use Rattle.tables.specs.FlatHoles.{flatHoles, flatHole}
+use Rattle.tables.specs.Tets.{tetLabel, tetCorner, tetPairs, tetPair, edgeOf, edgeIn}
+use Rattle.tables.specs.Edges.{cornerOf, labelTo}
+use Rattle.tables.specs.Cases.{flat, mtRow}
 use Rattle.tables.proofs.Edges.{deltas-at}
 use Rattle.tables.proofs.FlatHoles.{flat-36}
 

@@ -1,6 +1,6 @@
 -- One cell: the cases of its six tetrahedra and their triangles, over its own corners 0 to 7 and its own edges 7 * corner + label. Assumes nothing.
 -- A cell knows of each corner only whether it is there and whether it is inside; vertices are put in afterwards.
-use mathlib.Core.Bool.{Bool, true, false, _&&_, cond}
+use mathlib.Core.Bool.{Bool, false, _&&_, cond}
 use mathlib.Core.List.{List, map}
 use Prim.Native.Nat.{ℕ, _+_, _*_}
 use lib.ListN.{getD}

@@ -1,5 +1,5 @@
 -- `lattice::get_edge_owner` meets its contract. Assumes nothing.
-use mathlib.Core.Path.{_≡_, sym, ap, _∙_, subst}
+use mathlib.Core.Path.{_≡_, sym, subst}
 use Prim.Native.Nat.{ℕ, _<_}
 use Rattle.lattice.specs.Owner.{fromTo, labelOf}
 use Rattle.lattice.proofs.Owner.{gap-lt, owner-label, own-first, own-other, own-none}

@@ -1,18 +1,14 @@
 -- `marks::count_crossed` meets its contract. Assumes nothing.
-use borrow.Author.Needs.{needs}
 use native.Mathlib.Omega.{arith}
-use mathlib.Core.Path.{_≡_, refl, sym, ap, _∙_}
-use mathlib.Core.List.{List, _++_}
-use Prim.Native.Nat.{ℕ, _+_, _*_, _-_, _≤_}
-use lib.ListN.{length, take, drop, length-drop}
-use lib.Ieee.{Float}
-use Rattle.laws.proofs.Tails.{tail-is, tail-back}
-use Rattle.lattice.specs.declared.Sides.{Sides}
+use mathlib.Core.Path.{_≡_, sym, _∙_}
+use Prim.Native.Nat.{_*_, _-_, _≤_}
+use lib.ListN.{length, drop}
+use Rattle.laws.proofs.Tails.{tail-is}
 use Rattle.lattice.proofs.Sites.{layer-most}
 use Rattle.laws.specs.Ranges.{sum}
 use Rattle.laws.proofs.Sums.{sum-none, sum-turn, sum-done, sum-room}
 use Rattle.marks.specs.Loops.{fromLayer, crossLayer}
-use Rattle.marks.proofs.Rooms.{layer-sampled, layer-fit, layer-count-most, layers-count, Begins, begins}
+use Rattle.marks.proofs.Rooms.{layer-sampled, layer-count-most, layers-count, Begins, begins}
 use Rattle.marks.proofs.count_crossed.Statement.{statement}
 use Rattle.marks.proofs.count_crossed.Tie as tie
 

@@ -1,6 +1,6 @@
 -- `marks::mark_label` meets its contract. Assumes nothing.
 use native.Mathlib.Omega.{arith}
-use mathlib.Core.Path.{_≡_, sym, ap, _∙_}
+use mathlib.Core.Path.{sym, ap, _∙_}
 use Prim.Native.Nat.{ℕ}
 use Rattle.sides.specs.declared.Crossing.{Crossing}
 use Rattle.lattice.specs.Across.{acrossOf}

@@ -5,14 +5,12 @@ use borrow.Rule.Slice.PartMut.{same-len-mid}
 use mathlib.Core.Path.{_≡_, refl, sym, ap, _∙_}
 use mathlib.Core.List.{List, _++_}
 use Prim.Native.Nat.{ℕ, _+_, _*_, _-_, _≤_}
-use lib.ListN.{length, take, drop, length-drop}
-use lib.Ieee.{Float}
+use lib.ListN.{length, take}
 use Rattle.laws.proofs.Tails.{tail-is, tail-back}
-use Rattle.lattice.specs.declared.Sides.{Sides}
 use Rattle.lattice.proofs.Sites.{layer-most}
 use Rattle.laws.specs.Ranges.{fold}
 use Rattle.laws.proofs.Ranges.{fold-none, fold-turn, fold-done}
-use Rattle.marks.specs.Loops.{layerTurn, markLayer, markLayers}
+use Rattle.marks.specs.Loops.{layerTurn, markLayers}
 use Rattle.marks.proofs.Rooms.{room-kept, layer-room, Begins, begins}
 use Rattle.marks.proofs.mark_layers.Statement.{statement}
 use Rattle.marks.proofs.mark_layers.Tie as tie
