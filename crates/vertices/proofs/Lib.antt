@@ -1,0 +1,3 @@
+-- The laws of one site's vertices: where its edges lead, and their places in the edge table.
+pub mod Ends
+pub mod Places

@@ -1,0 +1,90 @@
+// Vertices of one site: the samples at its fourteen ends, the places of its edges in the edge table, and the vertex of one cluster.
+use lattice::OtherEnd;
+use lattice::Sides;
+use points::EdgePoint;
+use points::Frame;
+use points::Sum;
+use sides::Sample;
+ghost use mathlib.Core.Path.{_≡_};
+ghost use Prim.Native.Nat.{_*_, _<_, _≤_};
+ghost use lib.ListN.{length};
+ghost use Rattle.lattice.specs.Sites.{SidesFit, sites};
+ghost use Rattle.lattice.specs.Across.{acrossOf};
+ghost use Rattle.marks.specs.Loops.{Sampled};
+ghost use Rattle.stages.specs.Boxes.{reach, owned};
+ghost use Rattle.stages.specs.Samples.{endBy, endsOf, placeOf};
+
+// The finite sample at the other end of an edge.
+fn end_at(n: Sides, samples: &[f64], s: usize, e: usize) -> Sample
+    requires { ⌜ Sampled n (now samples) × (s < sites n) × (e < 14) ⌝ }
+    ensures { λ r. ⌜ r ≡ endBy (now (samples .entry)) (acrossOf n s e) ⌝ }
+{
+    let end = lattice::across(n, s, e);
+    match end {
+        OtherEnd::Missing => Sample::Missing,
+        OtherEnd::At(t) => sides::finite_sample(samples[t]),
+    }
+}
+
+// The fourteen ends of a site, as the topology test takes them.
+pub fn ends_of(n: Sides, samples: &[f64], s: usize) -> [Sample; 14]
+    requires { ⌜ Sampled n (now samples) × (s < sites n) ⌝ }
+    ensures { λ r. ⌜ r ≡ endsOf n (now (samples .entry)) s ⌝ }
+{
+    let a = end_at(n, samples, s, 0);
+    let b = end_at(n, samples, s, 1);
+    let c = end_at(n, samples, s, 2);
+    let d = end_at(n, samples, s, 3);
+    let e = end_at(n, samples, s, 4);
+    let f = end_at(n, samples, s, 5);
+    let g = end_at(n, samples, s, 6);
+    let h = end_at(n, samples, s, 7);
+    let i = end_at(n, samples, s, 8);
+    let j = end_at(n, samples, s, 9);
+    let k = end_at(n, samples, s, 10);
+    let l = end_at(n, samples, s, 11);
+    let m = end_at(n, samples, s, 12);
+    let o = end_at(n, samples, s, 13);
+    [a, b, c, d, e, f, g, h, i, j, k, l, m, o]
+}
+
+// How far the site across an owned edge lies, by number.
+fn reach_of(n: Sides, label: usize) -> usize
+    requires { ⌜ SidesFit n × (label < 7) ⌝ }
+    ensures { λ r. ⌜ r ≡ reach n label ⌝ }
+{
+    let c = tables::label_corner(label);
+    c % 2 + n.nu * (c / 2 % 2) + n.nu * n.nv * (c / 4 % 2)
+}
+
+// The place of an edge in the edge table: 7 times its owner, and the owner's label.
+pub fn edge_place(n: Sides, s: usize, e: usize) -> usize
+    requires { ⌜ SidesFit n × (s < sites n) × (e < 14) ⌝ }
+    ensures { λ r. ⌜ r ≡ owned n s e ⌝ }
+{
+    if e < 7 {
+        return 7 * s + e;
+    }
+    let label = e - 7;
+    let far = reach_of(n, label);
+    if far <= s {
+        return 7 * (s - far) + label;
+    }
+    label
+}
+
+// The point on an edge of a site.
+fn place_of(frame: Frame, n: Sides, samples: &[f64], s: usize, e: usize) -> EdgePoint
+    requires { ⌜ Sampled n (now samples) × (s < sites n) × (e < 14) ⌝ }
+    ensures { λ r. ⌜ r ≡ placeOf frame n (now (samples .entry)) s (acrossOf n s e) ⌝ }
+{
+    let end = lattice::across(n, s, e);
+    match end {
+        OtherEnd::Missing => EdgePoint::Missing,
+        OtherEnd::At(t) => {
+            let a = lattice::coordinates(n, s);
+            let b = lattice::coordinates(n, t);
+            points::edge_point(frame, a, b, samples[s], samples[t])
+        }
+    }
+}
