@@ -1,6 +1,6 @@
 -- Laws of the whole count file: it is one exactly if its header, its samples and nothing else are read; the bytes say the values; any two answers are equal.
 -- Assumes nothing.
-use mathlib.Core.Path.{_≡_, refl, sym, ap, _∙_}
+use mathlib.Core.Path.{_≡_, refl, sym, ap, ap₂, _∙_}
 use mathlib.Core.Bool.{Bool, true, false, cond}
 use mathlib.Core.List.{List, [], _∷_, _++_, append-nil}
 use Prim.Native.Nat.{ℕ, zero, suc, _+_, _-_, _*_, _≤_, _<_}
@@ -152,12 +152,31 @@ module _ (form : List Field) (s : List ℕ) where
             })
 
         -- the list that was filled, where it was n zeros
-        pub filled : (n : ℕ) → l ≡ replicate n 0 → length l′ ≡ n → countOf vs ≤ n → l′ ≡ padded n 0 (take (countOf vs) l′)
-        filled n e h g =
+        pub filled : (n : ℕ) → l ≡ replicate n 0 → countOf vs ≤ n → l′ ≡ padded n 0 (take (countOf vs) l′)
+        filled n e g =
+            let h : length l′ ≡ n = q .full ∙ rw (e, length-replicate) in
             sym (take-append-drop (countOf vs) l′)
             ∙ rw (q .past, e, drop-replicate, length-take-le (countOf vs) l′ (rw h g))
 
 -- ---- what is read from a count file
+
+-- the answer where all was read
+pub accept : (s vs : List ℕ) (mid : ℕ) → Reads (lines headForm) (Fine headForm) s 0 vs mid → (countOf vs ≡ 0 → ⊥) → {l′ : List ℕ} (next : ℕ)
+    → Stored s mid (countOf vs) (replicate 216 0) l′ next → next ≡ length s → (n : ℕ) → n ≡ countOf vs
+    → Accepted s (record { good = true; head = vs; sites = n; samples = l′ })
+accept s vs mid p some {l′} next q e n m =
+    let g : countOf vs ≤ 216 = count-le (getD vs 0 0) (getD vs 1 0) (getD vs 2 0) in
+    let h : length l′ ≡ 216 = q .full ∙ length-replicate {A = ℕ} 216 0 in
+    let k : n ≡ length (take (countOf vs) l′) = m ∙ sym (length-take-le (countOf vs) l′ (rw h g)) in
+    let w : l′ ≡ padded 216 0 (take (countOf vs) l′) = filled headForm s vs mid p some (replicate 216 0) l′ next q 216 refl g in
+    record {
+      samples = take (countOf vs) l′;
+      file = file-read headForm s vs mid p some (replicate 216 0) l′ next q e;
+      is = ap₂ (λ (i : ℕ) (x : List ℕ). the-answer vs i x) k w;
+    }
+  where
+    the-answer : List ℕ → ℕ → List ℕ → Parsed
+    the-answer vs i x = record { good = true; head = vs; sites = i; samples = x }
 
 -- it is determined
 pub file-parsed : (s vs ss : List ℕ) (r : Parsed) → CountFile s vs ss → ParsedOf s r → r ≡ accepted vs ss

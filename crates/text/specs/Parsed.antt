@@ -67,6 +67,7 @@ countOf vs = siteCount (getD vs 0 0) (getD vs 1 0) (getD vs 2 0)
 pub record Stored (s : List ℕ) (from n : ℕ) (l l′ : List ℕ) (next : ℕ) : Type 0 where
   pub reads : Reads (lines (bodyForm n)) (Fine (bodyForm n)) s from (take n l′) next
   pub past : drop n l′ ≡ drop n l
+  pub full : length l′ ≡ length l
 
 abbrev pub SamplesOf : List ℕ → ℕ → ℕ → List ℕ → List ℕ → Place → Type 0
 SamplesOf s from n l l′ Bad = Absent (lines (bodyForm n)) (Fine (bodyForm n)) s from

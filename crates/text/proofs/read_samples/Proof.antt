@@ -71,7 +71,7 @@ returns-2 c =
     let at = c .before .loop in
     let n = c .before .before .before .before .args .n in
     let e : at .k ≡ n = omega (arith, at .inv .some, length-replicate n sample, c .loop-test .left) in
-    record { reads = run-done _ _ _ _ _ _ _ (at .inv) n (length-replicate n sample) (c .loop-test .left); past = rw e at (at .inv .past) }
+    record { reads = run-done _ _ _ _ _ _ _ (at .inv) n (length-replicate n sample) (c .loop-test .left); past = rw e at (at .inv .past); full = at .inv .full }
 
 pub read-samples-spec : {M : Type 1} → statement M
 read-samples-spec =
