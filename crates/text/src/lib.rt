@@ -5,11 +5,11 @@ ghost use lib.Dec.{eqb};
 ghost use lib.ListN.{length, drop, getD};
 ghost use Rattle.laws.specs.Written.{Written};
 ghost use Rattle.text.specs.Numbers.{dec};
-ghost use Rattle.text.specs.Lines.{decEnd, hexEnd, decLine, hexLine, Small, Word, lineOf, okOf};
+ghost use Rattle.text.specs.Lines.{decEnd, hexEnd, decLine, hexLine, Small, Word, lineOf, okOf, lines};
 ghost use Rattle.text.specs.Readers.{Line, starts, hexVal};
 ghost use Rattle.text.specs.CountFile.{headField};
 ghost use Rattle.text.specs.Parsed.{siteCount, noHead, HeadOf, SamplesOf, refusal, ParsedOf};
-ghost use Rattle.text.specs.Answer.{countField, answerText, refusalText};
+ghost use Rattle.text.specs.Answer.{countForm, countField, answerText, refusalText};
 
 // ---- one line
 
@@ -385,4 +385,74 @@ pub fn put_line(out: &mut [u8], at: usize, key: &[u8], n: u64) -> usize
     let a = put_text(out, at, key);
     let b = put_dec(out, a, n);
     put_text(out, b, b"\n")
+}
+
+// `status=` and the number, appended: a refusal is this line alone.
+pub fn print_refusal(out: &mut [u8], at: usize, status: u64) -> usize
+    requires { ⌜ at + 28 ≤ length (now out) ⌝ }
+    ensures { λ r. ⌜ Written (now (out .entry)) at (refusalText status) (now (out .exit)) r ⌝ }
+{
+    put_line(out, at, b"status=", status)
+}
+
+// The line of count k, appended.
+fn put_count(out: &mut [u8], at: usize, k: usize, n: u64) -> usize
+    requires { ⌜ (k < 11) × (at + 34 ≤ length (now out)) ⌝ }
+    ensures { λ r. ⌜ Written (now (out .entry)) at (lineOf (countField k) n) (now (out .exit)) r ⌝ }
+{
+    if k == 0 {
+        return put_line(out, at, b"sites=", n);
+    }
+    if k == 1 {
+        return put_line(out, at, b"crossed=", n);
+    }
+    if k == 2 {
+        return put_line(out, at, b"vertices=", n);
+    }
+    if k == 3 {
+        return put_line(out, at, b"triangles=", n);
+    }
+    if k == 4 {
+        return put_line(out, at, b"closed=", n);
+    }
+    if k == 5 {
+        return put_line(out, at, b"multihole=", n);
+    }
+    if k == 6 {
+        return put_line(out, at, b"flathole=", n);
+    }
+    if k == 7 {
+        return put_line(out, at, b"multisurface=", n);
+    }
+    if k == 8 {
+        return put_line(out, at, b"simple=", n);
+    }
+    if k == 9 {
+        return put_line(out, at, b"split=", n);
+    }
+    put_line(out, at, b"rounds=", n)
+}
+
+// The lines of the eleven counts, appended.
+fn put_counts(out: &mut [u8], at: usize, counts: [u64; 11]) -> usize
+    requires { ⌜ at + 374 ≤ length (now out) ⌝ }
+    ensures { λ r. ⌜ Written (now (out .entry)) at (lines countForm counts) (now (out .exit)) r ⌝ }
+{
+    let mut next = at;
+    let mut k = 0usize;
+    while k < 11 {
+        next = put_count(out, next, k, counts[k]);
+        k += 1;
+    }
+    next
+}
+
+// The whole answer of a build that is done, appended: `status=0`, then sites, crossed edges, vertices, triangles, the five cases
+// (closed, multihole, flathole, multisurface, simple), clusters split and rounds done. It never takes more than 402 bytes.
+pub fn print_answer(out: &mut [u8], at: usize, counts: [u64; 11]) -> usize
+    requires { ⌜ at + 402 ≤ length (now out) ⌝ }
+    ensures { λ r. ⌜ Written (now (out .entry)) at (answerText counts) (now (out .exit)) r ⌝ }
+{
+    let next = print_refusal(out, at, 0);
+    put_counts(out, next, counts)
 }

@@ -1,15 +1,13 @@
 -- `text::head_line` meets its contract: a key a line. Assumes nothing.
-use Prim.Native.Nat.{ℕ, suc, _≤_, _<_, zero-le}
+use Prim.Native.Nat.{ℕ, _≤_, _<_, zero-le}
 use native.Mathlib.Omega.{arith}
 use mathlib.Core.Path.{_≡_}
 use Rattle.text.specs.Lines.{lineOf, okOf}
 use Rattle.text.specs.CountFile.{headField}
 use borrow.Author.Needs.{needs}
+use Rattle.laws.proofs.Ranges.{le-ne}
 use Rattle.text.proofs.head_line.Statement.{statement}
 use Rattle.text.proofs.head_line.Tie as tie
-
-up : (i : ℕ) {k : ℕ} → i ≤ k → (k ≡ i → ⊥) → suc i ≤ k
-up i {k} h z = omega arith
 
 last : (k : ℕ) → k < 11 → 10 ≤ k → k ≡ 10
 last k h g = omega arith
@@ -125,7 +123,7 @@ unfolding headField lineOf okOf
 returns-11 c =
     let k = c .before .before in
     let e : c .before .before .before .before .before .before .before .before .before .before .before .before .before .args .k ≡ 10 = last _ (c .before .before .before .before .before .before .before .before .before .before .before .before .before .pre .1) (
-    up 9 (up 8 (up 7 (up 6 (up 5 (up 4 (up 3 (up 2 (up 1 (up 0 zero-le
+    le-ne 9 (le-ne 8 (le-ne 7 (le-ne 6 (le-ne 5 (le-ne 4 (le-ne 3 (le-ne 2 (le-ne 1 (le-ne 0 zero-le
     (k .before .before .before .before .before .before .before .before .before .if1 .left)) (k .before .before .before .before .before .before .before .before .if2 .left)) (k .before .before .before .before .before .before .before .if3 .left)) (k .before .before .before .before .before .before .if4 .left)) (k .before .before .before .before .before .if5 .left)) (k .before .before .before .before .if6 .left)) (k .before .before .before .if7 .left)) (k .before .before .if8 .left)) (k .before .if9 .left)) (k .if10 .left)) in
     rw e (c .hex-line6 .ensures)
 
