@@ -205,7 +205,7 @@ dec-some n = digits-some 19 n
 
 -- ---- the number that digits say
 
-value : ℕ → List ℕ → ℕ
+unfoldable pub value : ℕ → List ℕ → ℕ
 value a [] = a
 value a (b ∷ l) = value (a * 10 + (b - 48)) l
 
@@ -224,7 +224,11 @@ value-digits (suc k) n h = elim (lt-or n 10) [
       rw (digits-large k n t, value-snoc 0 (digits k (n / 10)) (48 + n % 10), value-digits k (n / 10) (omega (arith, p))) (omega arith)
 ]
 
--- two numbers of 64 bits that are printed alike are equal
-pub dec-same : (n m : ℕ) → n < 2 ^ 64 → m < 2 ^ 64 → dec n ≡ dec m → n ≡ m
+-- what is printed of a number of 64 bits says that number
+pub dec-value : (n : ℕ) → n < 2 ^ 64 → value 0 (dec n) ≡ n
 unfolding dec
-dec-same n m a b e = sym (value-digits 19 n (omega arith)) ∙ ap (value 0) e ∙ value-digits 19 m (omega arith)
+dec-value n h = value-digits 19 n (omega arith)
+
+-- so two that are printed alike are equal
+pub dec-same : (n m : ℕ) → n < 2 ^ 64 → m < 2 ^ 64 → dec n ≡ dec m → n ≡ m
+dec-same n m a b e = sym (dec-value n a) ∙ ap (value 0) e ∙ dec-value m b

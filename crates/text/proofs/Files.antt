@@ -4,20 +4,21 @@ use mathlib.Core.Path.{_≡_, refl, sym, ap, ap₂, _∙_}
 use mathlib.Core.Bool.{Bool, true, false, cond}
 use mathlib.Core.List.{List, [], _∷_, _++_, append-nil}
 use Prim.Native.Nat.{ℕ, zero, suc, _+_, _-_, _*_, _≤_, _<_}
-use native.Mathlib.Nat.{mul-one, zero-mul, mul-zero, le-trans, le-of-eq, mul-le-mul-left, lt-of-lt-of-le}
+use native.Mathlib.Nat.{suc-mul, mul-one, zero-mul, mul-zero, le-trans, le-of-eq, mul-le-mul-left, lt-of-lt-of-le}
 use native.Mathlib.Omega.{arith}
 use lib.Dec.{leb}
-use lib.ListN.{length, drop, take, getD, replicate, length-drop, length-replicate, take-append-drop}
+use lib.ListN.{length, drop, take, getD, replicate, length-drop, length-append, length-replicate, take-append-drop}
 use lib.Seq.{drop-length, length-take-le}
 use borrow.Author.Tests.{le-leb, lt-leb, leb-true}
 use Rattle.laws.specs.Filling.{padded}
+use Rattle.laws.specs.Lists.{total}
 use Rattle.laws.proofs.Lists.{drop-replicate}
 use Rattle.text.specs.declared.Parsed.{Parsed}
 use Rattle.text.specs.Lines.{Field, Dec, okOf, lines, Fine, line}
 use Rattle.text.specs.Readers.{Reads, Absent}
 use Rattle.text.specs.CountFile.{headForm, bodyForm, sites, InSize, fileText, FileOf, CountFile}
-use Rattle.text.specs.Parsed.{accepted, refusal, Accepted, Refused, parsedAs, ParsedOf, siteCount, countOf, Stored}
-use Rattle.text.proofs.Lines.{lines-same, fine-length}
+use Rattle.text.specs.Parsed.{accepted, Accepted, Refused, parsedAs, ParsedOf, siteCount, countOf, Stored}
+use Rattle.text.proofs.Lines.{lines-same, lineMost, lines-most}
 
 -- ---- the number of sites
 
@@ -203,3 +204,21 @@ parsed-unique s r q a b = go (r .good) (q .good) a b
 -- a file that is printed is read back: the same header, the same samples
 pub file-back : (vs ss : List ℕ) (r : Parsed) → Fine headForm vs → InSize vs → Fine (bodyForm (sites vs)) ss → ParsedOf (fileText headForm vs ss) r → r ≡ accepted vs ss
 file-back vs ss r h i b p = file-parsed (fileText headForm vs ss) vs ss r (record { head = h; size = i; body = b; is = refl }) p
+
+-- ---- no count file is longer than 4321 bytes
+
+body-most : (n : ℕ) → total lineMost (bodyForm n) ≡ n * 19
+unfolding total lineMost
+body-most zero = refl
+body-most (suc n) = rw suc-mul (omega (arith, body-most n))
+
+pub file-longest : (s vs ss : List ℕ) → CountFile s vs ss → length s ≤ 4321
+unfolding total lineMost
+file-longest s vs ss f =
+    let h : length (lines headForm vs) ≤ 217 = lines-most (f .head) in
+    let b : length (lines (bodyForm (sites vs)) ss) ≤ sites vs * 19 = rw (← body-most (sites vs)) (lines-most (f .body)) in
+    let l : length s ≡ length (lines headForm vs) + length (lines (bodyForm (sites vs)) ss) = ap length (f .is) ∙ length-append (lines headForm vs) (lines (bodyForm (sites vs)) ss) in
+    at-most (f .size .most) h b l
+  where
+    at-most : {n a b c : ℕ} → n ≤ 216 → a ≤ 217 → b ≤ n * 19 → c ≡ a + b → c ≤ 4321
+    at-most p q r e = omega arith

@@ -8,3 +8,4 @@ pub mod Lines
 pub mod Runs
 pub mod Files
 pub mod Printing
+pub mod Example

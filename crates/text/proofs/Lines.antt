@@ -1,12 +1,17 @@
 -- Laws of lines: the bytes say the numbers, one line or a run of them; reading line by line reads the run; and what is printed reads back. Assumes nothing.
 use mathlib.Core.Path.{_≡_, refl, sym, ap, _∙_}
+use mathlib.Core.Bool.{Bool, true, false, _&&_, false≢true}
 use mathlib.Core.List.{List, [], _∷_, _++_, append-assoc, append-nil}
 use Prim.Native.Nat.{ℕ, zero, suc, _+_, _^_, _≤_, _<_}
 use native.Mathlib.Nat.{add-assoc, add-zero}
 use native.Mathlib.Omega.{arith}
+use lib.Dec.{ltb}
 use lib.ListN.{length, getD, drop, length-append}
 use lib.Seq.{drop-at}
+use borrow.Author.Tests.{ltb-true}
+use Rattle.laws.specs.Lists.{total}
 use Rattle.laws.specs.Ranges.{each}
+use Rattle.laws.proofs.Bools.{and-apart}
 use Rattle.laws.proofs.Lists.{append-apart}
 use Rattle.laws.proofs.Ranges.{each-first}
 use Rattle.text.specs.declared.Num.{Num}
@@ -14,7 +19,7 @@ use Rattle.text.specs.declared.Num.the-variants.{Bad, Got}
 use Rattle.text.specs.Numbers.{dec, hex}
 use Rattle.text.specs.Lines.{Field, Dec, Hex, lineOf, okOf, lines, Fine, none, line}
 use Rattle.text.specs.Readers.{Reads, Absent, Line}
-use Rattle.text.proofs.Decimals.{dec-same, run-dec, span, lf-no-digit, dec-room}
+use Rattle.text.proofs.Decimals.{dec-same, run-dec, span, lf-no-digit, dec-short, dec-room}
 use Rattle.text.proofs.Hex.{hex-length, hex-same}
 
 -- ---- one line
@@ -104,6 +109,37 @@ lines-more f v (line b p) = rw (lines-more f v p, append-assoc)
 pub fine-length : {fs : List Field} {vs : List ℕ} → Fine fs vs → length vs ≡ length fs
 fine-length none = refl
 fine-length (line a p) = ap suc (fine-length p)
+
+-- a test that tells whether each number is as its line may have
+unfoldable pub fineTest : List Field → List ℕ → Bool
+fineTest [] [] = true
+fineTest [] (v ∷ vs) = false
+fineTest (f ∷ fs) [] = false
+fineTest (Dec key ∷ fs) (v ∷ vs) = ltb v 1000000000 && fineTest fs vs
+fineTest (Hex key ∷ fs) (v ∷ vs) = ltb v (2 ^ 64) && fineTest fs vs
+
+pub fine-tested : (fs : List Field) (vs : List ℕ) → fineTest fs vs ≡ true → Fine fs vs
+unfolding fineTest okOf
+fine-tested [] [] e = none
+fine-tested [] (v ∷ vs) e = absurd (false≢true e)
+fine-tested (f ∷ fs) [] e = absurd (false≢true e)
+fine-tested (Dec key ∷ fs) (v ∷ vs) e = let a = and-apart (ltb v 1000000000) (fineTest fs vs) e in line (ltb-true v 1000000000 (a .0)) (fine-tested fs vs (a .1))
+fine-tested (Hex key ∷ fs) (v ∷ vs) e = let a = and-apart (ltb v (2 ^ 64)) (fineTest fs vs) e in line (ltb-true v (2 ^ 64) (a .0)) (fine-tested fs vs (a .1))
+
+-- how long a line is at most, where its number is as it may have, and a run
+unfoldable pub lineMost : Field → ℕ
+lineMost (Dec key) = length key + 10
+lineMost (Hex key) = length key + 17
+
+line-most : (f : Field) (n : ℕ) → okOf f n → length (lineOf f n) ≤ lineMost f
+unfolding lineOf okOf lineMost
+line-most (Dec key) n a = rw (dec-line-length key n) (omega (arith, dec-short n a))
+line-most (Hex key) n a = simp (length-append, hex-length) (omega arith)
+
+pub lines-most : {fs : List Field} {vs : List ℕ} → Fine fs vs → length (lines fs vs) ≤ total lineMost fs
+unfolding lines total
+lines-most none = omega arith
+lines-most (line {f} {fs} {v} {vs} a p) = rw length-append (omega (arith, line-most f v a, lines-most p))
 
 -- a run is its lines, numbered
 pub lines-each : (d : Field) (fs : List Field) (vs : List ℕ) → length fs ≡ length vs → lines fs vs ≡ each (length fs) (λ k. lineOf (getD fs k d) (getD vs k 0))

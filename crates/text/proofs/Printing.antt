@@ -7,11 +7,12 @@ use lib.ListN.{length, set, getD, length-append}
 use Rattle.laws.specs.Written.{Written}
 use Rattle.laws.specs.Lists.{All}
 use Rattle.laws.specs.Ranges.{each}
+use Rattle.laws.proofs.Lists.{append-apart}
 use Rattle.laws.proofs.Written.{written-one, written-more}
 use Rattle.laws.proofs.Ranges.{each-le}
 use Rattle.text.specs.Numbers.{dec}
-use Rattle.text.specs.Lines.{Field, Dec, Hex, lineOf, okOf, lines, Fine, line}
-use Rattle.text.specs.Answer.{status, countForm, countField, answerForm, answerText, refusalText}
+use Rattle.text.specs.Lines.{Field, Dec, lineOf, lines, Fine}
+use Rattle.text.specs.Answer.{status, countForm, countField, answerText, refusalText}
 use Rattle.text.proofs.Decimals.{dec-small, dec-large}
 use Rattle.text.proofs.Lines.{keyOf, line-room, lines-each, lines-same}
 
@@ -45,3 +46,23 @@ count-line-room k n = let s = short-at 13 countForm keys k in omega (arith, line
 pub status-room : (n : ℕ) → length (lineOf status n) ≤ 28
 unfolding keyOf
 status-room n = omega (arith, line-room status n)
+
+-- a whole answer never takes more than 402 bytes, a refusal never more than 28
+pub answer-length : (vs : List ℕ) → length vs ≡ 11 → length (answerText vs) ≤ 402
+unfolding answerText lines countField
+answer-length vs h =
+    let e : lines countForm vs ≡ each 11 (λ k. lineOf (countField k) (getD vs k 0)) = lines-each (Dec []) countForm vs (sym h) in
+    let c : length (each 11 (λ k. lineOf (countField k) (getD vs k 0))) ≤ 11 * 34 = each-le 34 11 (λ k. lineOf (countField k) (getD vs k 0)) (λ k. count-line-room k (getD vs k 0)) in
+    let c′ : length (lines countForm vs) ≤ 11 * 34 = rw e c in
+    rw length-append (omega (arith, status-room 0))
+
+pub refusal-length : (n : ℕ) → length (refusalText n) ≤ 28
+unfolding refusalText
+refusal-length n = status-room n
+
+-- two answers with equal bytes have equal counts
+pub answer-back : (vs ws : List ℕ) → Fine countForm vs → Fine countForm ws → answerText vs ≡ answerText ws → vs ≡ ws
+unfolding answerText lines
+answer-back vs ws a b e =
+    let t = append-apart (lineOf status 0) (lineOf status 0) (lines countForm vs) (lines countForm ws) refl e in
+    lines-same [] [] a b (ap (λ l. l ++ []) (t .1)) .first

@@ -5,3 +5,4 @@ pub mod Readers
 pub mod CountFile
 pub mod Parsed
 pub mod Answer
+pub mod Example
