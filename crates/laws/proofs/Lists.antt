@@ -125,9 +125,10 @@ module _ {A : Type 0} where
 
   -- equal lists whose fronts are equally long: the fronts are equal, and what follows them
   pub append-apart : (x y r t : List A) → length x ≡ length y → x ++ r ≡ y ++ t → (x ≡ y) × (r ≡ t)
-  append-apart x y r t h e =
-      (sym (take-at x r (length y) h) ∙ ap (take (length y)) e ∙ take-at y t (length y) refl,
-      sym (drop-at x r (length y) h) ∙ ap (drop (length y)) e ∙ drop-at y t (length y) refl)
+  append-apart x y r t h e = (
+    sym (take-at x r (length y) h) ∙ ap (take (length y)) e ∙ take-at y t (length y) refl,
+    sym (drop-at x r (length y) h) ∙ ap (drop (length y)) e ∙ drop-at y t (length y) refl,
+  )
 
   pub drop-replicate : (k n : ℕ) (a : A) → drop k (replicate n a) ≡ replicate (n - k) a
   drop-replicate zero n a = let e : n - 0 ≡ n = omega arith in rw e

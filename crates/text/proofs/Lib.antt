@@ -8,4 +8,5 @@ pub mod Lines
 pub mod Runs
 pub mod Files
 pub mod Printing
+pub mod Determined
 pub mod Example
