@@ -1,7 +1,7 @@
 -- Laws of the whole count file: it is one exactly if its header, its samples and nothing else are read; the bytes say the values; any two answers are equal.
 -- Assumes nothing.
 use mathlib.Core.Path.{_≡_, refl, sym, ap, ap₂, _∙_}
-use mathlib.Core.Bool.{Bool, true, false, cond}
+use mathlib.Core.Bool.{Bool, true, false, cond, false≢true}
 use mathlib.Core.List.{List, [], _∷_, _++_, append-nil}
 use Prim.Native.Nat.{ℕ, zero, suc, _+_, _-_, _*_, _≤_, _<_}
 use native.Mathlib.Nat.{suc-mul, mul-one, zero-mul, mul-zero, le-trans, le-of-eq, mul-le-mul-left, lt-of-lt-of-le}
@@ -14,10 +14,10 @@ use Rattle.laws.specs.Filling.{padded}
 use Rattle.laws.specs.Lists.{total}
 use Rattle.laws.proofs.Lists.{drop-replicate}
 use Rattle.text.specs.declared.Parsed.{Parsed}
-use Rattle.text.specs.Lines.{Field, Dec, okOf, lines, Fine, line}
+use Rattle.text.specs.Lines.{Field, Dec, lineOf, okOf, lines, Fine, line}
 use Rattle.text.specs.Readers.{Reads, Absent}
 use Rattle.text.specs.CountFile.{headForm, bodyForm, sites, InSize, fileText, FileOf, CountFile}
-use Rattle.text.specs.Parsed.{accepted, Accepted, Refused, parsedAs, ParsedOf, siteCount, countOf, Stored}
+use Rattle.text.specs.Parsed.{accepted, refusal, Accepted, Refused, parsedAs, ParsedOf, siteCount, countOf, Stored}
 use Rattle.text.proofs.Lines.{lines-same, lineMost, lines-most}
 
 -- ---- the number of sites
@@ -201,6 +201,14 @@ parsed-unique s r q a b = go (r .good) (q .good) a b
     go false true a b = absurd (a .none (q .head) (b .samples) (b .file))
     go false false a b = a .is ∙ sym (b .is)
 
+-- it is accepted exactly if it is a count file
+pub good-exactly : (s : List ℕ) (r : Parsed) → ParsedOf s r → (r .good ≡ true → Accepted s r) × ((vs ss : List ℕ) → CountFile s vs ss → r .good ≡ true)
+good-exactly s r p = (λ e. go (r .good) e p, λ vs ss f. ap (λ (q : Parsed). q .good) (file-parsed s vs ss r f p))
+  where
+    go : (b : Bool) → b ≡ true → parsedAs b s r → Accepted s r
+    go true e a = a
+    go false e a = absurd (false≢true e)
+
 -- a file that is printed is read back: the same header, the same samples
 pub file-back : (vs ss : List ℕ) (r : Parsed) → Fine headForm vs → InSize vs → Fine (bodyForm (sites vs)) ss → ParsedOf (fileText headForm vs ss) r → r ≡ accepted vs ss
 file-back vs ss r h i b p = file-parsed (fileText headForm vs ss) vs ss r (record { head = h; size = i; body = b; is = refl }) p
@@ -222,3 +230,22 @@ file-longest s vs ss f =
   where
     at-most : {n a b c : ℕ} → n ≤ 216 → a ≤ 217 → b ≤ n * 19 → c ≡ a + b → c ≤ 4321
     at-most p q r e = omega arith
+
+-- ---- what is no count file is refused: the empty input, and any that is longer
+
+pub none-refused : (s : List ℕ) (r : Parsed) → ((vs ss : List ℕ) → CountFile s vs ss → ⊥) → ParsedOf s r → r ≡ refusal
+none-refused s r z p = go (r .good) p
+  where
+    go : (b : Bool) → parsedAs b s r → r ≡ refusal
+    go true a = absurd (z (r .head) (a .samples) (a .file))
+    go false a = a .is
+
+pub empty-refused : (r : Parsed) → ParsedOf [] r → r ≡ refusal
+unfolding lines lineOf
+empty-refused r p = none-refused [] r (λ vs ss f. go vs ss (f .head) (ap length (f .is))) p
+  where
+    go : (vs ss : List ℕ) → Fine headForm vs → 0 ≡ length (fileText headForm vs ss) → ⊥
+    go (v ∷ vs) ss (line a q) e = omega arith
+
+pub long-refused : (s : List ℕ) (r : Parsed) → 4321 < length s → ParsedOf s r → r ≡ refusal
+long-refused s r h p = none-refused s r (λ vs ss f. let l = file-longest s vs ss f in omega arith) p

@@ -57,7 +57,6 @@ answer-length vs h =
     rw length-append (omega (arith, status-room 0))
 
 pub refusal-length : (n : ℕ) → length (refusalText n) ≤ 28
-unfolding refusalText
 refusal-length n = status-room n
 
 -- two answers with equal bytes have equal counts

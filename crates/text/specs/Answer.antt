@@ -37,5 +37,5 @@ unfoldable pub answerText : List ℕ → List ℕ
 answerText vs = lines answerForm (0 ∷ vs)
 
 -- refused with number n
-unfoldable pub refusalText : ℕ → List ℕ
+abbrev pub refusalText : ℕ → List ℕ
 refusalText n = lineOf status n

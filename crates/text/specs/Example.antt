@@ -86,5 +86,5 @@ answer-is = refl
 
 -- status=8
 pub refusal-is : refusalText 8 ≡ 115 ∷ 116 ∷ 97 ∷ 116 ∷ 117 ∷ 115 ∷ 61 ∷ 56 ∷ 10 ∷ []
-unfolding digits dec lineOf refusalText
+unfolding digits dec lineOf
 refusal-is = refl

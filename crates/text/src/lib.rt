@@ -9,7 +9,7 @@ ghost use Rattle.text.specs.Lines.{decEnd, hexEnd, decLine, hexLine, Sma
 ghost use Rattle.text.specs.Readers.{Line, starts, hexVal};
 ghost use Rattle.text.specs.CountFile.{headField};
 ghost use Rattle.text.specs.Parsed.{siteCount, noHead, HeadOf, SamplesOf, refusal, ParsedOf};
-ghost use Rattle.text.specs.Answer.{countForm, countField, answerText, refusalText};
+ghost use Rattle.text.specs.Answer.{status, countForm, countField, answerText, refusalText};
 
 // ---- one line
 
@@ -387,12 +387,20 @@ pub fn put_line(out: &mut [u8], at: usize, key: &[u8], n: u64) -> usize
     put_text(out, b, b"\n")
 }
 
-// `status=` and the number, appended: a refusal is this line alone.
-pub fn print_refusal(out: &mut [u8], at: usize, status: u64) -> usize
+// The line of the status, appended.
+fn put_status(out: &mut [u8], at: usize, n: u64) -> usize
     requires { ⌜ at + 28 ≤ length (now out) ⌝ }
-    ensures { λ r. ⌜ Written (now (out .entry)) at (refusalText status) (now (out .exit)) r ⌝ }
+    ensures { λ r. ⌜ Written (now (out .entry)) at (lineOf status n) (now (out .exit)) r ⌝ }
 {
-    put_line(out, at, b"status=", status)
+    put_line(out, at, b"status=", n)
+}
+
+// The whole answer of a refusal with number n, appended: `status=` and the number alone. It never takes more than 28 bytes.
+pub fn print_refusal(out: &mut [u8], at: usize, n: u64) -> usize
+    requires { ⌜ at + 28 ≤ length (now out) ⌝ }
+    ensures { λ r. ⌜ Written (now (out .entry)) at (refusalText n) (now (out .exit)) r ⌝ }
+{
+    put_status(out, at, n)
 }
 
 // The line of count k, appended.
@@ -453,6 +461,6 @@ pub fn print_answer(out: &mut [u8], at: usize, counts: [u64; 11]) -> usize
     requires { ⌜ at + 402 ≤ length (now out) ⌝ }
     ensures { λ r. ⌜ Written (now (out .entry)) at (answerText counts) (now (out .exit)) r ⌝ }
 {
-    let next = print_refusal(out, at, 0);
+    let next = put_status(out, at, 0);
     put_counts(out, next, counts)
 }
