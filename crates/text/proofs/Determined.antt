@@ -2,31 +2,18 @@
 -- That of `dec_line` and `hex_line` is `line-unique` of Lines, that of `read_file` is `parsed-unique` of Files.
 use mathlib.Core.Path.{_≡_, sym, _∙_}
 use mathlib.Core.Bool.{Bool}
-use mathlib.Core.List.{List, []}
+use mathlib.Core.List.{List}
 use Prim.Native.Nat.{ℕ}
 use lib.ListN.{drop}
 use Rattle.laws.specs.Written.{Written}
 use Rattle.laws.proofs.Written.{written-unique}
-use Rattle.text.specs.declared.Num.{Num}
 use Rattle.text.specs.Numbers.{dec}
-use Rattle.text.specs.Lines.{Dec, Hex, decEnd, hexEnd, decLine, Small, Word, lineOf, okOf}
-use Rattle.text.specs.Readers.{Line, starts, hexVal}
+use Rattle.text.specs.Lines.{decLine}
+use Rattle.text.specs.Readers.{starts}
 use Rattle.text.specs.Answer.{answerText, refusalText}
-use Rattle.text.proofs.Lines.{line-unique}
 
 pub has-unique : (s : List ℕ) (at : ℕ) (key : List ℕ) (r q : Bool) → r ≡ starts key (drop at s) → q ≡ starts key (drop at s) → r ≡ q
 has-unique s at key r q a b = a ∙ sym b
-
-pub hex-value-unique : (b r q : ℕ) → r ≡ hexVal b → q ≡ hexVal b → r ≡ q
-hex-value-unique b r q x y = x ∙ sym y
-
-pub dec-at-unique : (s : List ℕ) (from : ℕ) (r q : Num) → Line decEnd Small s from r → Line decEnd Small s from q → r ≡ q
-unfolding lineOf okOf
-dec-at-unique s from r q a b = line-unique (Dec []) s from r q a b
-
-pub hex-at-unique : (s : List ℕ) (from : ℕ) (r q : Num) → Line hexEnd Word s from r → Line hexEnd Word s from q → r ≡ q
-unfolding lineOf okOf
-hex-at-unique s from r q a b = line-unique (Hex []) s from r q a b
 
 pub put-dec-unique : (l : List ℕ) (at n : ℕ) (l′ l″ : List ℕ) (r q : ℕ) → Written l at (dec n) l′ r → Written l at (dec n) l″ q → (l′ ≡ l″) × (r ≡ q)
 put-dec-unique l at n l′ l″ r q a b = written-unique a b

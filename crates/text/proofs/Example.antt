@@ -1,6 +1,5 @@
 -- Document 01's example file is a count file of its values, and is read as these. Assumes nothing.
 use mathlib.Core.Path.{_≡_, refl, sym}
-use Prim.Native.Nat.{_≤_}
 use native.Mathlib.Omega.{arith}
 use Rattle.text.specs.declared.Parsed.{Parsed}
 use Rattle.text.specs.CountFile.{headForm, bodyForm, CountFile}

@@ -4,11 +4,11 @@ use mathlib.Core.Path.{_≡_, refl, sym, ap, ap₂, _∙_}
 use mathlib.Core.Bool.{Bool, true, false, cond, false≢true}
 use mathlib.Core.List.{List, [], _∷_, _++_, append-nil}
 use Prim.Native.Nat.{ℕ, zero, suc, _+_, _-_, _*_, _≤_, _<_}
-use native.Mathlib.Nat.{suc-mul, mul-one, zero-mul, mul-zero, le-trans, le-of-eq, mul-le-mul-left, lt-of-lt-of-le}
+use native.Mathlib.Nat.{suc-mul, mul-comm, mul-one, zero-mul, mul-zero, le-trans, le-of-eq, mul-le-mul-left, lt-of-lt-of-le}
 use native.Mathlib.Omega.{arith}
 use lib.Dec.{leb}
 use lib.ListN.{length, drop, take, getD, replicate, length-drop, length-append, length-replicate, take-append-drop}
-use lib.Seq.{drop-length, length-take-le}
+use lib.Seq.{drop-length, length-take-le, take-at}
 use borrow.Author.Tests.{le-leb, lt-leb, leb-true}
 use Rattle.laws.specs.Filling.{padded}
 use Rattle.laws.specs.Lists.{total}
@@ -16,9 +16,10 @@ use Rattle.laws.proofs.Lists.{drop-replicate}
 use Rattle.text.specs.declared.Parsed.{Parsed}
 use Rattle.text.specs.Lines.{Field, Dec, lineOf, okOf, lines, Fine, line}
 use Rattle.text.specs.Readers.{Reads, Absent}
-use Rattle.text.specs.CountFile.{headForm, bodyForm, sites, InSize, fileText, FileOf, CountFile}
-use Rattle.text.specs.Parsed.{accepted, refusal, Accepted, Refused, parsedAs, ParsedOf, siteCount, countOf, Stored}
-use Rattle.text.proofs.Lines.{lines-same, lineMost, lines-most}
+use Rattle.text.specs.CountFile.{headForm, sample, bodyForm, sites, InSize, fileText, FileOf, CountFile}
+use Rattle.text.specs.Parsed.{accepted, refusal, Accepted, parsedAs, ParsedOf}
+use Rattle.text.specs.Parts.{siteCount, countOf, Stored}
+use Rattle.text.proofs.Lines.{lines-same, fine-length, lineMost, lines-most}
 
 -- ---- the number of sites
 
@@ -33,8 +34,11 @@ count-large a b c h = rw (lt-leb (a * b * c) 216 h)
 pub count-zero : (a b c : ℕ) → a * b * c ≡ 0 → siteCount a b c ≡ 0
 count-zero a b c h = count-small a b c (omega arith) ∙ h
 
+times-some : (a c : ℕ) → 1 ≤ c → a ≤ a * c
+times-some a c g = le-trans (le-of-eq (sym (mul-one a))) (mul-le-mul-left a g)
+
 pub over-left : (a c : ℕ) → 216 < a → (c ≡ 0 → ⊥) → 216 < a * c
-over-left a c h z = lt-of-lt-of-le h (le-trans (le-of-eq (sym (mul-one a))) (mul-le-mul-left a (pos c z)))
+over-left a c h z = lt-of-lt-of-le h (times-some a c (pos c z))
   where
     pos : (c : ℕ) → (c ≡ 0 → ⊥) → 1 ≤ c
     pos c z = omega arith
@@ -63,7 +67,7 @@ factor-some (suc a) zero z = absurd (z (mul-zero (suc a)))
 factor-some (suc a) (suc c) z = (omega arith, omega arith)
 
 some-some : (a c : ℕ) → 1 ≤ a → 1 ≤ c → 1 ≤ a * c
-some-some a c h g = le-trans h (le-trans (le-of-eq (sym (mul-one a))) (mul-le-mul-left a g))
+some-some a c h g = le-trans h (times-some a c g)
 
 pub count-size : (vs : List ℕ) → (countOf vs ≡ 0 → ⊥) → InSize vs
 count-size vs z =
@@ -81,6 +85,18 @@ size-count vs i z =
     let p = some-some (getD vs 0 0 * getD vs 1 0) (getD vs 2 0) (some-some (getD vs 0 0) (getD vs 1 0) (i .some-u) (i .some-v)) (i .some-w) in
     omega (arith, sym e ∙ z)
 
+-- then no side is over 216
+pub side-most : (vs : List ℕ) → InSize vs → (getD vs 0 0 ≤ 216) × (getD vs 1 0 ≤ 216) × (getD vs 2 0 ≤ 216)
+side-most vs i =
+    let a = getD vs 0 0 in
+    let b = getD vs 1 0 in
+    let c = getD vs 2 0 in
+    let ab : a * b ≤ 216 = le-trans (times-some (a * b) c (i .some-w)) (i .most) in (
+      le-trans (times-some a b (i .some-v)) ab,
+      le-trans (rw (mul-comm a b) (times-some b a (i .some-u))) ab,
+      le-trans (rw (mul-comm (a * b) c) (times-some c (a * b) (some-some a b (i .some-u) (i .some-v)))) (i .most),
+    )
+
 -- the header's decimals are small
 pub first-small : {k : List ℕ} {fs : List Field} {vs : List ℕ} → Fine (Dec k ∷ fs) vs → getD vs 0 0 < 1000000000
 unfolding okOf
@@ -97,7 +113,8 @@ pub file-unique : (form : List Field) (s vs ss ws rs : List ℕ) → FileOf form
 file-unique form s vs ss ws rs f g =
     let t = lines-same (lines (bodyForm (sites vs)) ss) (lines (bodyForm (sites ws)) rs) (f .head) (g .head) (sym (f .is) ∙ g .is) in
     let b : Fine (bodyForm (sites vs)) rs = rw (t .first) (g .body) in
-    let e : lines (bodyForm (sites vs)) ss ++ [] ≡ lines (bodyForm (sites vs)) rs ++ [] = rw (append-nil, append-nil) (t .rest ∙ rw (t .first)) in
+    let e : lines (bodyForm (sites vs)) ss ++ [] ≡ lines (bodyForm (sites vs)) rs ++ [] =
+    rw (append-nil (lines (bodyForm (sites vs)) ss), append-nil (lines (bodyForm (sites vs)) rs)) (t .rest ∙ rw (t .first)) in
     let u = lines-same [] [] (f .body) b e in
     (t .first, u .first)
 
@@ -208,6 +225,19 @@ good-exactly s r p = (λ e. go (r .good) e p, λ vs ss f. ap (λ (q : Parsed). q
     go : (b : Bool) → b ≡ true → parsedAs b s r → Accepted s r
     go true e a = a
     go false e a = absurd (false≢true e)
+
+-- what an accepted answer holds
+pub accepted-head : (s : List ℕ) (r : Parsed) → Accepted s r → length (r .head) ≡ 11
+accepted-head s r a = fine-length (a .file .head)
+
+pub accepted-sites : (s : List ℕ) (r : Parsed) → Accepted s r → r .sites ≡ sites (r .head)
+accepted-sites s r a = ap (λ (q : Parsed). q .sites) (a .is) ∙ fine-length (a .file .body) ∙ length-replicate (sites (r .head)) sample
+
+pub accepted-samples : (s : List ℕ) (r : Parsed) (a : Accepted s r) → take (r .sites) (r .samples) ≡ a .samples
+accepted-samples s r a =
+    let n : r .sites ≡ length (a .samples) = ap (λ (q : Parsed). q .sites) (a .is) in
+    let l : r .samples ≡ padded 216 0 (a .samples) = ap (λ (q : Parsed). q .samples) (a .is) in
+    ap₂ (λ (k : ℕ) (x : List ℕ). take k x) n l ∙ take-at (a .samples) (replicate (216 - length (a .samples)) 0) (length (a .samples)) refl
 
 -- a file that is printed is read back: the same header, the same samples
 pub file-back : (vs ss : List ℕ) (r : Parsed) → Fine headForm vs → InSize vs → Fine (bodyForm (sites vs)) ss → ParsedOf (fileText headForm vs ss) r → r ≡ accepted vs ss

@@ -12,7 +12,7 @@ use lib.Seq.{drop-cons, drop-drop, drop-append-seam}
 use borrow.Author.Tests.{eqb-true, eq-eqb, ne-eqb}
 use Rattle.text.specs.declared.Num.{Num}
 use Rattle.text.specs.declared.Num.the-variants.{Bad, Got}
-use Rattle.text.specs.Readers.{Reads, Absent, Line, starts}
+use Rattle.text.specs.Readers.{Absent, Line, starts}
 
 -- ---- byte by byte
 

@@ -1,6 +1,6 @@
 -- Reading sixteen hex digits: what has been read so far is the print of the number so far; and each way in which there are none. Assumes nothing.
 use mathlib.Core.Path.{_≡_, sym, ap, _∙_}
-use mathlib.Core.Logic.{_⊎_, inl, inr}
+use mathlib.Core.Logic.{inl, inr}
 use mathlib.Core.List.{List, [], _∷_, _++_, append-assoc}
 use Prim.Native.Nat.{ℕ, _+_, _-_, _*_, _^_, _≤_, _<_}
 use native.Mathlib.Nat.{add-assoc, add-zero}
@@ -12,7 +12,7 @@ use Rattle.laws.proofs.Ranges.{lt-or}
 use Rattle.text.specs.Numbers.{hex, hexDigit}
 use Rattle.text.specs.Lines.{hexEnd, Word}
 use Rattle.text.specs.Readers.{Reads, Absent, hexVal}
-use Rattle.text.proofs.Hex.{val-digit, digit-val, val-le, hex-length, hex-more, hex-at, fits, small-word}
+use Rattle.text.proofs.Hex.{digit-val, val-le, hex-length, hex-more, hex-at, fits, small-word}
 use Rattle.text.proofs.ReadDecimal.{next-byte}
 
 pub record Sofar (s : List ℕ) (from n k : ℕ) : Type 0 where

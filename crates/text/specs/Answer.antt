@@ -1,6 +1,6 @@
 -- What the count program prints (document 01, "The count program"): twelve lines where it is done, `status=` and the number alone where it refuses.
 -- Assumes nothing.
-use mathlib.Core.List.{List, [], _∷_, _++_}
+use mathlib.Core.List.{List, [], _∷_}
 use Prim.Native.Nat.{ℕ}
 use lib.ListN.{getD}
 use Rattle.text.specs.Lines.{Field, Dec, lineOf, lines}

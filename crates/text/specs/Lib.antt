@@ -4,5 +4,6 @@ pub mod Lines
 pub mod Readers
 pub mod CountFile
 pub mod Parsed
+pub mod Parts
 pub mod Answer
 pub mod Example

@@ -8,7 +8,8 @@ ghost use Rattle.text.specs.Numbers.{dec};
 ghost use Rattle.text.specs.Lines.{decEnd, hexEnd, decLine, hexLine, Small, Word, lineOf, okOf, lines};
 ghost use Rattle.text.specs.Readers.{Line, starts, hexVal};
 ghost use Rattle.text.specs.CountFile.{headField};
-ghost use Rattle.text.specs.Parsed.{siteCount, noHead, HeadOf, SamplesOf, refusal, ParsedOf};
+ghost use Rattle.text.specs.Parsed.{refusal, ParsedOf};
+ghost use Rattle.text.specs.Parts.{siteCount, noHead, HeadOf, SamplesOf};
 ghost use Rattle.text.specs.Answer.{status, countForm, countField, answerText, refusalText};
 
 // ---- one line
@@ -87,7 +88,7 @@ fn dec_more(s: &[u8], from: usize, d: u64) -> Num
 }
 
 // A decimal of at most nine digits with no needless zero, and LF.
-pub fn dec_at(s: &[u8], from: usize) -> Num
+fn dec_at(s: &[u8], from: usize) -> Num
     requires { ⌜ from ≤ length (now s) ⌝ }
     ensures { λ r. ⌜ Line decEnd Small (now (s .entry)) from r ⌝ }
 {
@@ -105,7 +106,7 @@ pub fn dec_at(s: &[u8], from: usize) -> Num
 }
 
 // The value of a lower-case hex digit, 16 for any other byte.
-pub fn hex_value(b: u8) -> u64
+fn hex_value(b: u8) -> u64
     ensures { λ r. ⌜ r ≡ hexVal b ⌝ }
 {
     if b < 48 {
@@ -124,7 +125,7 @@ pub fn hex_value(b: u8) -> u64
 }
 
 // Sixteen hex digits and LF.
-pub fn hex_at(s: &[u8], from: usize) -> Num
+fn hex_at(s: &[u8], from: usize) -> Num
     requires { ⌜ from ≤ length (now s) ⌝ }
     ensures { λ r. ⌜ Line hexEnd Word (now (s .entry)) from r ⌝ }
 {

@@ -1,8 +1,7 @@
 -- `text::put_dec` meets its contract: the tenth first, then the last digit. Assumes nothing.
-use Prim.Native.Nat.{ℕ, _<_, _≤_, _/_, _+_}
+use Prim.Native.Nat.{ℕ, _≤_}
 use native.Mathlib.Omega.{arith}
 use borrow.Author.Needs.{needs}
-use mathlib.Core.Path.{_≡_}
 use Rattle.text.proofs.Printing.{put-digit, put-last, longer}
 use Rattle.text.proofs.Decimals.{dec-some}
 use Rattle.laws.proofs.Written.{written-length}

@@ -1,5 +1,4 @@
 -- `text::dec_line` meets its contract. Assumes nothing.
-use native.Mathlib.Omega.{arith}
 use borrow.Author.Needs.{needs}
 use mathlib.Core.Path.{sym, _∙_}
 use Rattle.text.specs.Lines.{decEnd, Small}

@@ -1,12 +1,11 @@
 -- `text::read_file` meets its contract: each way out is a law of the whole file. Assumes nothing.
 use native.Mathlib.Omega.{arith}
 use borrow.Author.Needs.{needs}
-use mathlib.Core.Path.{_≡_, refl, sym, ap, _∙_}
+use mathlib.Core.Path.{refl, sym, _∙_}
 use lib.ListN.{getD}
 use Rattle.text.specs.Lines.{lines, Fine}
 use Rattle.text.specs.Readers.{Reads}
 use Rattle.text.specs.CountFile.{headForm}
-use Rattle.text.specs.Parsed.{countOf}
 use Rattle.text.proofs.Files.{count-le, first-small, second-small, no-head, bad-size, no-samples, more-follows, accept}
 use Rattle.text.proofs.read_file.Statement.{statement}
 use Rattle.text.proofs.read_file.Tie as tie

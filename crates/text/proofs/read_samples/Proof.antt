@@ -1,9 +1,9 @@
 -- `text::read_samples` meets its contract: what has been read are the first k lines. Assumes nothing.
-use Prim.Native.Nat.{ℕ, _-_, _<_, _≤_}
+use Prim.Native.Nat.{_-_, _<_}
 use native.Mathlib.Omega.{arith}
 use borrow.Author.Needs.{needs}
-use mathlib.Core.Path.{_≡_, refl, sym}
-use lib.ListN.{replicate, length, take, length-replicate, getD-replicate}
+use mathlib.Core.Path.{_≡_}
+use lib.ListN.{replicate, length, length-replicate, getD-replicate}
 use Rattle.text.specs.Lines.{lineOf, okOf}
 use Rattle.text.specs.CountFile.{sample}
 use Rattle.text.proofs.Runs.{Filled, run-start, run-turn, run-bad, run-done}

@@ -1,9 +1,7 @@
 -- `text::sites_of` meets its contract. Assumes nothing.
-use Prim.Native.Nat.{_*_, _<_}
+use Prim.Native.Nat.{_*_}
 use native.Mathlib.Nat.{mul-le-mul, le-of-lt, lt-of-le-of-lt, zero-mul, mul-zero, mul-comm}
-use native.Mathlib.Omega.{arith}
-use borrow.Author.Needs.{needs}
-use mathlib.Core.Path.{_≡_, sym}
+use mathlib.Core.Path.{sym}
 use lib.Dec.{lit<}
 use Rattle.text.proofs.Files.{count-zero, count-large, count-small, over-left}
 use Rattle.text.proofs.sites_of.Statement.{statement}
