@@ -1,5 +1,5 @@
 -- `text::put_dec` meets its contract: the tenth first, then the last digit. Assumes nothing.
-use Prim.Native.Nat.{ℕ, _≤_}
+use Prim.Native.Nat.{ℕ, _<_, _≤_}
 use native.Mathlib.Omega.{arith}
 use borrow.Author.Needs.{needs}
 use Rattle.text.proofs.Printing.{put-digit, put-last, longer}
