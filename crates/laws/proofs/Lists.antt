@@ -2,13 +2,13 @@
 use mathlib.Core.Path.{_≡_, refl, sym, ap, ap₂, _∙_}
 use mathlib.Core.Bool.{Bool, true, false, _&&_, cond, false≢true}
 use mathlib.Core.List.{List, [], _∷_, _++_, map, append-assoc}
-use Prim.Native.Nat.{ℕ, zero, suc, _+_, _*_, _≤_, _<_}
+use Prim.Native.Nat.{ℕ, zero, suc, _+_, _-_, _*_, _≤_, _<_}
 use native.Mathlib.Nat.{not-suc-le-zero, le-of-suc-le-suc}
 use native.Mathlib.Numerals.{add-one}
 use native.Mathlib.Omega.{arith}
 use lib.Dec.{T, eqb, ltb}
-use lib.ListN.{length, getD, set, take, drop, length-map}
-use lib.Seq.{take-suc, take-suc-set, drop-cons, getD-at, set-at, length-take-le}
+use lib.ListN.{length, getD, set, take, drop, replicate, length-map}
+use lib.Seq.{take-suc, take-suc-set, drop-cons, getD-at, set-at, length-take-le, take-at, drop-at}
 use Rattle.laws.specs.Bools.{bit}
 use Rattle.laws.specs.Lists.{keep, count, every, joined, total, All}
 use Rattle.laws.proofs.Bools.{bit-le, bit-T, and-left, and-right, T-true}
@@ -121,6 +121,20 @@ module _ {A : Type 0} where
   unfolding total joined
   total-joined f [] = refl
   total-joined f (l ∷ ls) = total-append f l (joined ls) ∙ ap (λ (n : ℕ). total f l + n) (total-joined f ls)
+
+  -- ---- joined lists taken apart
+
+  -- equal lists whose fronts are equally long: the fronts are equal, and what follows them
+  pub append-apart : (x y r t : List A) → length x ≡ length y → x ++ r ≡ y ++ t → (x ≡ y) × (r ≡ t)
+  append-apart x y r t h e = (
+    sym (take-at x r (length y) h) ∙ ap (take (length y)) e ∙ take-at y t (length y) refl,
+    sym (drop-at x r (length y) h) ∙ ap (drop (length y)) e ∙ drop-at y t (length y) refl,
+  )
+
+  pub drop-replicate : (k n : ℕ) (a : A) → drop k (replicate n a) ≡ replicate (n - k) a
+  drop-replicate zero n a = let e : n - 0 ≡ n = omega arith in rw e
+  drop-replicate (suc k) zero a = let e : 0 - suc k ≡ 0 = omega arith in rw e
+  drop-replicate (suc k) (suc n) a = let e : suc n - suc k ≡ n - k = omega arith in rw e (drop-replicate k n a)
 
 module _ {A B : Type 0} where
   -- an entry of a mapped list, whatever stands for an entry that is not there

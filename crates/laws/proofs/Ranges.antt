@@ -30,6 +30,9 @@ eq-or zero (suc b) = inr (λ p. omega arith)
 eq-or (suc a) zero = inr (λ p. omega arith)
 eq-or (suc a) (suc b) = ⊎-elim (λ h. inl (ap suc h)) (λ h. inr (λ p. h (omega arith))) (eq-or a b)
 
+pub le-ne : (i : ℕ) {k : ℕ} → i ≤ k → (k ≡ i → ⊥) → i < k
+le-ne i {k} h z = omega arith
+
 -- ---- a loop that counts from 0
 
 module _ {A : Type 0} where

@@ -42,7 +42,7 @@ shared-slice-read-edge-point-2 : tie.Need-shared-slice-read-edge-point-2
 shared-slice-read-edge-point-2 c = found (c .before .before .before .before .before) .there-in
 
 edge-point-requires : tie.Need-edge-point-requires
-edge-point-requires c κs = 
+edge-point-requires c κs =
     let s = c .before .before .before .before .before .before .before .before .before in
     let a = box-small (s .args .n) (s .pre .0 .fit) (uvw-box (s .args .n) (s .pre .0 .fit) (s .args .s) (s .pre .1)) in
     let b = box-small (s .args .n) (s .pre .0 .fit) (uvw-box (s .args .n) (s .pre .0 .fit) (c .before .before .before .before .before .end .given .0 .0) (found (c .before .before .before .before .before) .inside)) in
@@ -54,7 +54,7 @@ returns c = sym (ap (placeOf (c .before .before .before .before .args .frame) (c
 
 returns-2 : tie.Need-returns-2
 unfolding placeOf
-returns-2 c = 
+returns-2 c =
     let s = c .before .before .before .before .before .before .before .before .before .before .args in
     c .edge-point .ensures ∙ rw (c .before .before .before .before .coordinates .ensures, c .before .before .before .coordinates2 .ensures)
     (sym (ap (placeOf (s .frame) (s .n) (s .samples .now) (s .s)) (found (c .before .before .before .before .before .before) .leads)))

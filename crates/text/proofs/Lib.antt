@@ -1,0 +1,12 @@
+-- Laws that several proofs use, and those of crates above.
+pub mod Decimals
+pub mod ReadDecimal
+pub mod Hex
+pub mod ReadHex
+pub mod Keys
+pub mod Lines
+pub mod Runs
+pub mod Files
+pub mod Printing
+pub mod Determined
+pub mod Example
