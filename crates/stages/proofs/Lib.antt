@@ -5,5 +5,10 @@ pub mod Room
 pub mod Lookup
 pub mod Finer
 pub mod Longer
+pub mod Table
+pub mod Order
+pub mod Turns
+pub mod Members
+pub mod Readback
 pub mod Examples
 pub mod TwoRounds
