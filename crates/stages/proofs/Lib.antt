@@ -10,5 +10,6 @@ pub mod Order
 pub mod Turns
 pub mod Members
 pub mod Readback
+pub mod Renumber
 pub mod Examples
 pub mod TwoRounds
