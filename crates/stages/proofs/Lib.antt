@@ -11,5 +11,6 @@ pub mod Turns
 pub mod Members
 pub mod Readback
 pub mod Renumber
+pub mod Flags
 pub mod Examples
 pub mod TwoRounds
