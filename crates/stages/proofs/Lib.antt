@@ -12,5 +12,7 @@ pub mod Members
 pub mod Readback
 pub mod Renumber
 pub mod Flags
+pub mod SampleClusters
+pub mod SampleMarks
 pub mod Examples
 pub mod TwoRounds

@@ -151,7 +151,8 @@ one-in e d h = go (eqb d e) refl h
     go true q i = eqb-true d e q
     go false q i = absurd (false≢true i)
 
-kept-count : (p : ℕ → Bool) (e : ℕ) (l : List ℕ) → count (eqb e) (keep p l) ≡ cond (p e) (count (eqb e) l) 0
+-- an edge among those that are kept
+pub kept-count : (p : ℕ → Bool) (e : ℕ) (l : List ℕ) → count (eqb e) (keep p l) ≡ cond (p e) (count (eqb e) l) 0
 unfolding keep count bit
 kept-count p e [] = zeros (p e)
   where
@@ -177,9 +178,9 @@ in-kept p e l = ap (ltb 0) (kept-count p e l) ∙ go (p e) (count (eqb e) l)
     go true n = sym (and-true (ltb 0 n))
     go false n = sym (and-false (ltb 0 n))
 
-asc-keep : (p : ℕ → Bool) (l : List ℕ) → Ascending l → Ascending (keep p l)
+pub ascending-keep : (p : ℕ → Bool) (l : List ℕ) → Ascending l → Ascending (keep p l)
 unfolding Ascending
-asc-keep p l a =
+ascending-keep p l a =
     ap (keep p) a ∙ keep-both (isIn l) p (numbers 14) ∙ sym (keep-same (isIn (keep p l)) (λ e. isIn l e && p e) (λ e. in-kept p e l) (numbers 14))
 
 module _ (b : Box) (mark : ℕ → ℕ → Bool) (C : Clustered b mark) where
@@ -213,7 +214,7 @@ module _ (b : Box) (mark : ℕ → ℕ → Bool) (C : Clustered b mark) where
   group-proper s l h a sub = record {
     low = h;
     marks = λ e i. sub e (omega (arith, count-keep (eqb e) (b .point s) l, ltb-true 0 (count (eqb e) (keep (b .point s) l)) i));
-    order = asc-keep (b .point s) l a;
+    order = ascending-keep (b .point s) l a;
   }
 
   groups-proper : (s : ℕ) → s < sites (b .sides) → (ls : List (List ℕ)) → All Ascending ls → ((e : ℕ) → 0 < count (eqb e) (joined ls) → mark s e ≡ true)
