@@ -11,13 +11,11 @@ use lib.ListN.{length, getD}
 use Rattle.stages.specs.Vertices.{Vertex}
 use Rattle.stages.specs.Splits.{endOf, over, overs, some}
 use Rattle.stages.specs.Rounds.{bad, bads, clusterOf, owns}
-
 use Rattle.laws.specs.Bools.{allBools, bit}
 use Rattle.laws.specs.Ranges.{any}
 use Rattle.laws.specs.Lists.{All, count, keep}
 use Rattle.laws.specs.Couples.{Pair, fromTo}
 use Rattle.tables.specs.Cases.{Tri, flat, sidesOf}
-
 use Rattle.tets.specs.March.{Field, emitted, march, proper, resolved, siteTris, slab}
 use Rattle.tets.specs.Runs.{runs, touches}
 use Rattle.pairs.specs.Sides.{directed, joins, next, pairCount}
@@ -25,7 +23,7 @@ use Rattle.laws.proofs.Bools.{and-apart, bool-ext, bools-at}
 use Rattle.laws.proofs.Ranges.{any-one, any-same, any-some, each-all}
 use Rattle.laws.proofs.Lists.{all-member, count-find, count-some}
 use Rattle.pairs.proofs.Sides.{directed-at, directed-length}
-use Rattle.pairs.specs.Sides as pairs --!
+use Rattle.pairs.specs.Sides as pairs
 
 -- ---- some member passes a test
 

@@ -8,11 +8,14 @@ pub mod Longer
 pub mod Table
 pub mod Order
 pub mod Turns
+pub mod Rounds
 pub mod Members
 pub mod Readback
 pub mod Renumber
 pub mod Flags
 pub mod SampleClusters
 pub mod SampleMarks
+pub mod HeldOnce
+pub mod Demand
 pub mod Examples
 pub mod TwoRounds

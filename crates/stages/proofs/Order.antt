@@ -10,11 +10,11 @@ use lib.ListN.{length}
 use Rattle.stages.specs.Boxes.{Box}
 use Rattle.stages.specs.Vertices.{Vertex, apart, candidates, filled, fresh, held, several, siteVertices}
 use Rattle.stages.specs.Meshes.{meshOf, numbers}
-use Rattle.stages.specs.Splits.{place, splits}
+use Rattle.stages.specs.Splits.{place, splitCount, splits}
 use Rattle.stages.specs.Rounds.{bads, isIn, liveAt, owners, owns, regrown, retire, retired, rollback, rolled}
 use Rattle.stages.specs.Stages.{Stage, again, first, parted}
 use Rattle.laws.specs.Bools.{bit}
-use Rattle.laws.specs.Ranges.{all, each}
+use Rattle.laws.specs.Ranges.{all, each, sum}
 use Rattle.laws.specs.Lists.{All, count, joined, keep}
 use Rattle.laws.specs.Couples.{Pair}
 use Rattle.lattice.specs.Sites.{sites}
@@ -232,7 +232,8 @@ in-turn p n s false e h r =
     omega (arith, last-none s n (p n) e) in
     ap (ltb 0) f ∙ r l
 
-in-keep : (p : ℕ → Bool) (n s : ℕ) → s < n → isIn (keep p (numbers n)) s ≡ p s
+-- a number is among those that are kept where it passes the test
+pub in-keep : (p : ℕ → Bool) (n s : ℕ) → s < n → isIn (keep p (numbers n)) s ≡ p s
 unfolding isIn keep numbers each
 in-keep p zero s h = let z : ⊥ = omega arith in absurd z
 in-keep p (suc n) s h =
@@ -284,3 +285,19 @@ pub rollback-number : (b : Box) (r : ℕ) {vs : List Vertex} → Stage b vs
 unfolding rollback owners
 rollback-number b r {vs} st =
     ap (λ (l : List Vertex). map (retire (owners b vs)) vs ++ l) (by-number (sites (b .sides)) r (owns vs (bads (meshOf b vs))) vs (stage-grouped b st))
+
+-- ---- how many candidates split, site by site
+
+count-more : (ps : List Pair) (n : ℕ) (xs ys : List Vertex) → splitCount ps n (xs ++ ys) ≡ splitCount ps n xs + splitCount ps (n + length xs) ys
+unfolding splitCount
+count-more ps n [] ys = let e : n ≡ n + 0 = omega arith in ap (λ (m : ℕ). splitCount ps m ys) e ∙ omega arith
+count-more ps n (x ∷ xs) ys =
+    let e : suc n + length xs ≡ n + suc (length xs) = omega arith in
+    omega (arith, count-more ps (suc n) xs ys, ap (λ (m : ℕ). splitCount ps m ys) e)
+
+pub split-count-each : (ps : List Pair) (f : ℕ → List Vertex) (n : ℕ) → splitCount ps 0 (each n f) ≡ sum n (λ s. splitCount ps (length (each s f)) (f s))
+unfolding each sum splitCount
+split-count-each ps f zero = refl
+split-count-each ps f (suc n) =
+    let e : 0 + length (each n f) ≡ length (each n f) = omega arith in
+    count-more ps 0 (each n f) (f n) ∙ (λ i. split-count-each ps f n i + splitCount ps (e i) (f n))

@@ -20,7 +20,6 @@ use Rattle.laws.specs.Bools.{bit}
 use Rattle.laws.specs.Ranges.{each}
 use Rattle.laws.specs.Lists.{All, count, joined, keep}
 use Rattle.lattice.specs.Sites.{sites}
-use Rattle.tets.specs.Cells.{at}
 use Rattle.tets.specs.March.{none}
 use Rattle.laws.proofs.Bools.{and-apart, and-yes, bool-ext}
 use Rattle.laws.proofs.Ranges.{each-all}

@@ -8,7 +8,9 @@ use native.Mathlib.Omega.{arith}
 use lib.Dec.{eqb}
 use borrow.Author.Tests.{eq-eqb}
 use lib.ListN.{length, getD, replicate, take}
+use lib.Seq.{take-append-seam}
 use Rattle.sides.specs.declared.Sample.{Sample}
+use Rattle.lattice.specs.declared.Sides.{Sides}
 use lib.Ieee.{Float}
 use Rattle.stages.specs.Meshes.{numbers}
 use Rattle.stages.specs.Rounds.{isIn}
@@ -22,17 +24,13 @@ use Rattle.laws.specs.Digits.{digit, isSet, mask}
 use Rattle.marks.specs.Marks.{marked, maskAt}
 use Rattle.topology.specs.Topology.{clustersIn, topologyOf}
 use Rattle.topology.specs.Walk.{fourteen}
-use Rattle.topology.specs.Parts.{Partition, low}
+use Rattle.topology.specs.Parts.{Partition}
 use Rattle.laws.proofs.Ranges.{each-once, each-one-at, each-one-length, lt-or}
 use Rattle.laws.proofs.Lists.{count-joined, count-keep, count-some, total-map, total-same, total-zero}
 use Rattle.laws.proofs.Digits.{digit-below, digit-high, digit-is, mask-digit, mask-lt, set-digit}
 use Rattle.topology.proofs.Answers.{clusters-partition}
-use Rattle.topology.proofs.Cases.{fourteen-own} --!
-use Rattle.lattice.specs.declared.Sides.{Sides} --!
-use Rattle.lattice.specs.declared.OtherEnd.{OtherEnd} --!
-use Rattle.lattice.specs.declared.OtherEnd.the-variants as end --!
-use Rattle.topology.specs.Topology.{caseOf} --!
-use lib.Seq.{take-append-seam} --!
+use Rattle.topology.proofs.Cases.{fourteen-own}
+use Rattle.topology.specs.Topology.{caseOf}
 
 -- ---- the edges of a mask
 

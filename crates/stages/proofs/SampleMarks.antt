@@ -6,6 +6,8 @@ use mathlib.Core.List.{List}
 use Prim.Native.Nat.{ℕ, zero, suc, _+_, _*_, _-_, _<_, _≤_}
 use native.Mathlib.Omega.{arith}
 use borrow.Author.Tests.{lt-ltb, le-ltb}
+use Rattle.lattice.specs.declared.Sides.{Sides}
+use Rattle.lattice.specs.declared.OtherEnd.{OtherEnd}
 use lib.Ieee.{Float}
 use Rattle.stages.specs.Boxes.{owned, reach}
 use Rattle.stages.specs.Samples.{boxOf, pointBy}
@@ -21,9 +23,7 @@ use Rattle.laws.proofs.Bools.{T-true, bit-T}
 use Rattle.laws.proofs.Ranges.{lt-or}
 use Rattle.lattice.proofs.Sites.{product-le, site-uvw}
 use Rattle.lattice.proofs.OtherEnds.{above-number, across-joined}
-use Rattle.lattice.specs.declared.Sides.{Sides} --!
-use Rattle.lattice.specs.declared.OtherEnd.{OtherEnd} --!
-use Rattle.lattice.specs.declared.OtherEnd.the-variants as end --!
+use Rattle.lattice.specs.declared.OtherEnd.the-variants as end
 
 -- ---- how far an edge reaches
 
@@ -40,11 +40,11 @@ reach-some n (suc (suc (suc (suc (suc (suc zero)))))) f h =
     omega (arith, p)
 reach-some n (suc (suc (suc (suc (suc (suc (suc l))))))) f h = let z : ⊥ = omega arith in absurd z
 
-owned-low : (n : Sides) (s e : ℕ) → e < 7 → owned n s e ≡ 7 * s + e
+pub owned-low : (n : Sides) (s e : ℕ) → e < 7 → owned n s e ≡ 7 * s + e
 unfolding owned
 owned-low n s e h = rw (lt-ltb e 7 h)
 
-owned-high : (n : Sides) (s e : ℕ) → 7 ≤ e → owned n s e ≡ 7 * (s - reach n (e - 7)) + (e - 7)
+pub owned-high : (n : Sides) (s e : ℕ) → 7 ≤ e → owned n s e ≡ 7 * (s - reach n (e - 7)) + (e - 7)
 unfolding owned
 owned-high n s e h = rw (le-ltb e 7 h)
 

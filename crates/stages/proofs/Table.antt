@@ -12,9 +12,11 @@ use Rattle.stages.specs.Boxes.{Box, owned}
 use Rattle.stages.specs.Vertices.{Vertex, apart, fresh, held, keys, nobody}
 use Rattle.stages.specs.Meshes.{find, holds, numbers, tableOf}
 use Rattle.stages.specs.Rounds.{isIn, retired}
+use Rattle.stages.specs.Stages.{Sound, Stage}
 use Rattle.stages.specs.Steps.{number, paint, paintAll}
 use Rattle.stages.proofs.Stages.{apart-keys, keysOf, retired-keys}
 use Rattle.stages.proofs.Lookup.{find-none, holds-not, holds-pos, times}
+use Rattle.stages.proofs.Longer.{stage-once}
 use Rattle.laws.specs.Bools.{bit}
 use Rattle.laws.specs.Ranges.{each}
 use Rattle.laws.specs.Lists.{count, total}
@@ -234,3 +236,7 @@ map-none (suc n) =
 pub table-start : (b : Box) → tableOf b [] ≡ replicate (7 * sites (b .sides)) none
 unfolding tableOf find
 table-start b = map-none (7 * sites (b .sides))
+
+-- THE TABLE OF A STAGE IS ITS VERTICES PAINTED IN TURN
+pub stage-painted : (b : Box) → Sound b → {vs : List Vertex} → Stage b vs → tableOf b vs ≡ paintAll b 0 vs (replicate (7 * sites (b .sides)) none)
+stage-painted b S {vs} st = paint-pass b [] vs (stage-once b S st) ∙ ap (paintAll b 0 vs) (table-start b)
