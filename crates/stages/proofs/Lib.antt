@@ -17,5 +17,6 @@ pub mod SampleClusters
 pub mod SampleMarks
 pub mod HeldOnce
 pub mod Demand
+pub mod Crossed
 pub mod Examples
 pub mod TwoRounds
