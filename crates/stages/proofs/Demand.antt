@@ -2,8 +2,8 @@
 use mathlib.Core.Path.{_≡_, refl, ap, ap₂, sym, _∙_}
 use mathlib.Core.Logic.{⊎-elim}
 use mathlib.Core.Bool.{Bool, true, false, _&&_, false≢true}
-use mathlib.Core.List.{List, [], _∷_}
-use Prim.Native.Nat.{ℕ, suc, _+_, _*_, _/_, _%_, _<_, _≤_}
+use mathlib.Core.List.{List}
+use Prim.Native.Nat.{ℕ, _+_, _*_, _/_, _%_, _<_, _≤_}
 use native.Mathlib.Omega.{arith}
 use lib.Dec.{eqb}
 use borrow.Author.Tests.{eqb-true, eq-eqb, ne-eqb}
@@ -20,6 +20,7 @@ use Rattle.stages.proofs.Stages.{built-stage}
 use Rattle.stages.proofs.Room.{always, count-always, stage-count, vertices-most}
 use Rattle.stages.proofs.Lookup.{find-none, stage-one, stage-times}
 use Rattle.stages.proofs.Table.{table-at}
+use Rattle.stages.proofs.Book.{book-held}
 use Rattle.stages.proofs.HeldOnce.{held-places}
 use Rattle.laws.specs.Bools.{bit}
 use Rattle.laws.specs.Ranges.{sum}
@@ -28,9 +29,9 @@ use Rattle.lattice.specs.Sites.{SidesFit, sites}
 use Rattle.lattice.specs.Across.{acrossOf}
 use Rattle.tets.specs.March.{none}
 use Rattle.marks.specs.Marks.{crossedBy, crossedCount, isCrossed}
-use Rattle.laws.proofs.Bools.{and-yes, bit-le, bool-ext}
+use Rattle.laws.proofs.Bools.{and-yes, bit-and-le, bit-le, bool-ext}
 use Rattle.laws.proofs.Ranges.{lt-or}
-use Rattle.laws.proofs.Sums.{sum-front, sum-le, sum-pick, sum-rows, sum-same, sum-under, sum-zero}
+use Rattle.laws.proofs.Sums.{sum-le, sum-pick, sum-rows, sum-same, sum-under, sum-zero}
 use Rattle.lattice.proofs.Sites.{sites-most}
 use Rattle.lattice.proofs.OtherEnds.{across-joined}
 use Rattle.lattice.specs.declared.OtherEnd.the-variants as end
@@ -45,23 +46,6 @@ none-times n c d = rw d (omega arith)
 times-always : (n k : ℕ) → n * bit (always k) ≡ n
 unfolding bit always
 times-always n k = omega arith
-
-and-bit : (p q : Bool) → bit (p && q) ≤ bit p
-unfolding bit
-and-bit true true = omega arith
-and-bit true false = omega arith
-and-bit false q = omega arith
-
--- the held counts in the vertex book
-pub book-held : (vs : List Vertex) → sum (length vs) (λ i. getD (bookOf vs) (4 * i + 1) 0) ≡ total (λ x. length (held x)) vs
-unfolding bookOf total sum
-book-held [] = refl
-book-held (x ∷ vs) =
-    sum-front (length vs) (λ i. getD (bookOf (x ∷ vs)) (4 * i + 1) 0)
-    ∙ ap (λ (m : ℕ). length (held x) + m)
-    (sum-same (length vs) (λ i. getD (bookOf (x ∷ vs)) (4 * suc i + 1) 0) (λ i. getD (bookOf vs) (4 * i + 1) 0)
-    (λ i h. let e : 4 * suc i + 1 ≡ suc (suc (suc (suc (4 * i + 1)))) = omega arith in ap (λ (j : ℕ). getD (x .site ∷ length (held x) ∷ length (x .edges) ∷ x .round ∷ bookOf vs) j 0) e)
-    ∙ book-held vs)
 
 -- E by the places of the table
 crossed-places : (n : Sides) (S : List Float) (h : Float) → crossedCount n S h ≡ sum (7 * sites n) (λ k. bit (isCrossed n S h (k / 7) (k % 7)))
@@ -114,7 +98,7 @@ module _ (n : Sides) (S : List Float) (h : Float) (cluster : Bool) (f : SidesFit
       omega
       (arith, edges-are, crossed-places n S h,
       sum-under (7 * sites n) (λ k. bit (isCrossed n S h (k / 7) (k % 7) && pointBy S (k / 7) (acrossOf n (k / 7) (k % 7)))) (λ k. bit (isCrossed n S h (k / 7) (k % 7)))
-      (λ k. and-bit (isCrossed n S h (k / 7) (k % 7)) (pointBy S (k / 7) (acrossOf n (k / 7) (k % 7)))))
+      (λ k. bit-and-le (isCrossed n S h (k / 7) (k % 7)) (pointBy S (k / 7) (acrossOf n (k / 7) (k % 7)))))
 
   pub sample-sound : Sound (boxOf n S h cluster)
   unfolding none

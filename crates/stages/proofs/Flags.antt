@@ -21,7 +21,7 @@ use Rattle.tets.specs.Runs.{runs, touches}
 use Rattle.pairs.specs.Sides.{directed, joins, next, pairCount}
 use Rattle.laws.proofs.Bools.{and-apart, bool-ext, bools-at}
 use Rattle.laws.proofs.Ranges.{any-one, any-same, any-some, each-all}
-use Rattle.laws.proofs.Lists.{all-member, count-find, count-some}
+use Rattle.laws.proofs.Lists.{all-member, count-find, count-kept, count-some}
 use Rattle.pairs.proofs.Sides.{directed-at, directed-length}
 use Rattle.pairs.specs.Sides as pairs
 
@@ -34,16 +34,6 @@ module _ {A : Type 0} where
       bool-ext (ltb 0 (count p xs)) (any (length xs) (λ k. p (getD xs k d)))
       (λ h. let r = count-find d p xs (ltb-true 0 (count p xs) h) in any-some (length xs) (λ k. p (getD xs k d)) (r .0) (r .1) (r .2))
       (λ h. let r = any-one (length xs) (λ k. p (getD xs k d)) h in lt-ltb 0 (count p xs) (count-some d p xs (r .0) (r .1) (r .2)))
-
-  count-kept : (f p : A → Bool) (xs : List A) → count f (keep p xs) ≡ count (λ x. p x && f x) xs
-  unfolding count keep bit
-  count-kept f p [] = refl
-  count-kept f p (x ∷ xs) = go (p x) (count-kept f p xs)
-    where
-      go : (c : Bool) → count f (keep p xs) ≡ count (λ x. p x && f x) xs
-          → count f (cond c (x ∷ keep p xs) (keep p xs)) ≡ bit (c && f x) + count (λ x. p x && f x) xs
-      go true e = omega (arith, e)
-      go false e = omega (arith, e)
 
   some-keep : (f p : A → Bool) (xs : List A) → some f (keep p xs) ≡ some (λ x. p x && f x) xs
   unfolding some

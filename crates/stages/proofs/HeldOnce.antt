@@ -26,6 +26,7 @@ use Rattle.lattice.specs.Sites.{SidesFit, sites}
 use Rattle.lattice.specs.Across.{acrossOf}
 use Rattle.sides.specs.Sides.{finite}
 use Rattle.marks.specs.Marks.{isCrossed, marked, markedBy, sample}
+use Rattle.laws.proofs.Bools.{bit-and-part}
 use Rattle.laws.proofs.Ranges.{lt-or}
 use Rattle.laws.proofs.Lists.{count-append}
 use Rattle.laws.proofs.Sums.{count-spread, each-total, sum-rows, sum-same}
@@ -69,12 +70,6 @@ module _ (b : Box) (q : ℕ → Bool) (s : ℕ) where
   site-keys = groups (b .clusters s)
 
 -- ---- the same by the owners of the edges
-
-part-bits : (c p q : Bool) → bit c * bit (p && q) ≡ bit (c && p) * bit q
-unfolding bit
-part-bits true true q = refl
-part-bits true false q = omega arith
-part-bits false p q = omega arith
 
 -- an edge's point does not depend on the end it is seen from
 point-turned : (S : List Float) (s t : ℕ) → pointBy S t (end.At s) ≡ pointBy S s (end.At t)
@@ -144,7 +139,7 @@ module _ (n : Sides) (S : List Float) (h : Float) (cluster : Bool) (f : SidesFit
         let d : (s * 7 + l) / 7 ≡ s = omega arith in
         let m : (s * 7 + l) % 7 ≡ l = omega arith in
         let o : 7 * s + l ≡ s * 7 + l = omega arith in
-        rw (d, m, o) (part-bits (isCrossed n S h s l) (pointBy S s (acrossOf n s l)) (q (s * 7 + l)))
+        rw (d, m, o) (bit-and-part (isCrossed n S h s l) (pointBy S s (acrossOf n s l)) (q (s * 7 + l)))
 
     -- WHAT THE CANDIDATES HOLD, for any test on places: the crossed edges with finite ends, each once
     pub held-places : count q (heldKeys box (candidates box)) ≡ sum (7 * sites n) (λ k. bit (pointed n S h k) * bit (q k))

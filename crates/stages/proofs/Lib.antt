@@ -8,6 +8,7 @@ pub mod Longer
 pub mod Table
 pub mod Order
 pub mod Turns
+pub mod Book
 pub mod Rounds
 pub mod Members
 pub mod Readback

@@ -23,7 +23,7 @@ use Rattle.lattice.specs.Sites.{sites}
 use Rattle.tets.specs.March.{none}
 use Rattle.laws.proofs.Bools.{and-apart, and-yes, bool-ext}
 use Rattle.laws.proofs.Ranges.{each-all}
-use Rattle.laws.proofs.Lists.{count-append, count-keep, keep-append, keep-both, keep-same}
+use Rattle.laws.proofs.Lists.{count-append, count-keep, count-key, keep-append, keep-both, keep-same}
 
 -- ---- lists of edges and of their places
 
@@ -150,28 +150,9 @@ one-in e d h = go (eqb d e) refl h
     go true q i = eqb-true d e q
     go false q i = absurd (false≢true i)
 
--- an edge among those that are kept
-pub kept-count : (p : ℕ → Bool) (e : ℕ) (l : List ℕ) → count (eqb e) (keep p l) ≡ cond (p e) (count (eqb e) l) 0
-unfolding keep count bit
-kept-count p e [] = zeros (p e)
-  where
-    zeros : (c : Bool) → _≡_ {A = ℕ} 0 (cond c 0 0)
-    zeros true = refl
-    zeros false = refl
-kept-count p e (d ∷ l) = go (p d) (p e) (eqb e d) refl refl refl (kept-count p e l)
-  where
-    go : (c q w : Bool) → p d ≡ c → p e ≡ q → eqb e d ≡ w → count (eqb e) (keep p l) ≡ cond q (count (eqb e) l) 0
-        → count (eqb e) (cond c (d ∷ keep p l) (keep p l)) ≡ cond q (bit w + count (eqb e) l) 0
-    go true true w i j m r = omega (arith, ap bit m, r)
-    go true false true i j m r = absurd (false≢true (sym j ∙ ap p (eqb-true e d m) ∙ i))
-    go true false false i j m r = omega (arith, ap bit m, r)
-    go false true true i j m r = absurd (false≢true (sym i ∙ sym (ap p (eqb-true e d m)) ∙ j))
-    go false true false i j m r = omega (arith, r)
-    go false false w i j m r = r
-
 in-kept : (p : ℕ → Bool) (e : ℕ) (l : List ℕ) → isIn (keep p l) e ≡ isIn l e && p e
 unfolding isIn
-in-kept p e l = ap (ltb 0) (kept-count p e l) ∙ go (p e) (count (eqb e) l)
+in-kept p e l = ap (ltb 0) (count-key p e l) ∙ go (p e) (count (eqb e) l)
   where
     go : (c : Bool) (n : ℕ) → ltb 0 (cond c n 0) ≡ ltb 0 n && c
     go true n = sym (and-true (ltb 0 n))

@@ -16,7 +16,7 @@ use Rattle.stages.specs.Meshes.{numbers}
 use Rattle.stages.specs.Rounds.{isIn}
 use Rattle.stages.specs.Samples.{clustersAt, edgesOf, endsOf}
 use Rattle.stages.specs.Clustered.{Ascending}
-use Rattle.stages.proofs.Readback.{ascending-keep, kept-count}
+use Rattle.stages.proofs.Readback.{ascending-keep}
 use Rattle.laws.specs.Bools.{bit}
 use Rattle.laws.specs.Ranges.{each}
 use Rattle.laws.specs.Lists.{All, count, joined, keep, total}
@@ -24,9 +24,9 @@ use Rattle.laws.specs.Digits.{digit, isSet, mask}
 use Rattle.marks.specs.Marks.{marked, maskAt}
 use Rattle.topology.specs.Topology.{clustersIn, topologyOf}
 use Rattle.topology.specs.Walk.{fourteen}
-use Rattle.topology.specs.Parts.{Partition}
+use Rattle.topology.specs.Parts.{Partition, low}
 use Rattle.laws.proofs.Ranges.{each-once, each-one-at, each-one-length, lt-or}
-use Rattle.laws.proofs.Lists.{count-joined, count-keep, count-some, total-map, total-same, total-zero}
+use Rattle.laws.proofs.Lists.{count-joined, count-keep, count-key, count-some, total-map, total-same, total-zero}
 use Rattle.laws.proofs.Digits.{digit-below, digit-high, digit-is, mask-digit, mask-lt, set-digit}
 use Rattle.topology.proofs.Answers.{clusters-partition}
 use Rattle.topology.proofs.Cases.{fourteen-own}
@@ -60,7 +60,7 @@ number-past e n h = each-once n e .past h
 
 edge-digit : (m e : ℕ) → e < 14 → count (eqb e) (edgesOf m) ≡ digit m e
 unfolding edgesOf bit
-edge-digit m e h = kept-count (isSet m) e (numbers 14) ∙ go (isSet m e) ∙ sym (digit-is m e)
+edge-digit m e h = count-key (isSet m) e (numbers 14) ∙ go (isSet m e) ∙ sym (digit-is m e)
   where
     go : (c : Bool) → cond c (count (eqb e) (numbers 14)) 0 ≡ bit c
     go true = number-once e 14 h

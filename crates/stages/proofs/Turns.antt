@@ -2,14 +2,14 @@
 use mathlib.Core.Path.{_≡_, refl, ap, sym, _∙_}
 use mathlib.Core.Bool.{Bool, true, false, cond}
 use mathlib.Core.List.{List, [], _∷_, _++_, map, append-nil, append-assoc}
-use Prim.Native.Nat.{ℕ, zero, suc, _+_, _*_, _<_, _≤_}
+use Prim.Native.Nat.{ℕ, zero, suc, _<_, _≤_}
 use native.Mathlib.Omega.{arith}
 use lib.Dec.{eqb}
 use lib.ListN.{length, getD, set, take, drop, length-set, length-append, length-map, List·getD-append}
 use lib.Seq.{getD-at, set-at, set-append-left, take-suc, drop-cons, length-take-le, take-length, drop-length}
 use Rattle.stages.specs.Boxes.{Box}
-use Rattle.stages.specs.Vertices.{Vertex, apart, held, keys, nobody}
-use Rattle.stages.specs.Meshes.{bookOf, positionsOf, tableOf}
+use Rattle.stages.specs.Vertices.{Vertex, apart, keys, nobody}
+use Rattle.stages.specs.Meshes.{tableOf}
 use Rattle.stages.specs.Rounds.{owners, retire, retired, rollback, rolled}
 use Rattle.stages.specs.Stages.{Stage}
 use Rattle.stages.specs.Steps.{number, rollTo, rollTurn}
@@ -133,44 +133,3 @@ module _ (b : Box) (r : ℕ) (os : List ℕ) where
           ≡ cond c (number (length ws) (keys b (getD ws i nobody)) (tableOf b ws)) (tableOf b ws)
       go true = table-roll b r ws i h o
       go false = refl
-
-pub book-append : (ws vs : List Vertex) → bookOf (ws ++ vs) ≡ bookOf ws ++ bookOf vs
-unfolding bookOf
-book-append [] vs = refl
-book-append (x ∷ ws) vs =
-    ap (λ (l : List ℕ). x .site ∷ length (held x) ∷ length (x .edges) ∷ x .round ∷ l) (book-append ws vs)
-
--- retiring stores one word
-pub book-retire : (ws : List Vertex) (i : ℕ) → i < length ws → bookOf (set ws i (retired (getD ws i nobody))) ≡ set (bookOf ws) (4 * i + 1) 0
-unfolding bookOf held retired
-book-retire [] i h = let z : ⊥ = omega arith in absurd z
-book-retire (x ∷ ws) zero h = refl
-book-retire (x ∷ ws) (suc i) h =
-    let e : suc (suc (suc (suc (4 * i + 1)))) ≡ 4 * suc i + 1 = omega arith in
-    ap (λ (l : List ℕ). x .site ∷ length (held x) ∷ length (x .edges) ∷ x .round ∷ l) (book-retire ws i (omega arith))
-    ∙ ap (λ (n : ℕ). set (x .site ∷ length (held x) ∷ length (x .edges) ∷ x .round ∷ bookOf ws) n 0) e
-
-pub book-length : (vs : List Vertex) → length (bookOf vs) ≡ 4 * length vs
-unfolding bookOf
-book-length [] = refl
-book-length (x ∷ vs) = omega (arith, book-length vs)
-
--- ---- the positions: appended with the vertices, and a retired vertex keeps its own
-
-module _ {A : Type 0} (P : ℕ → List ℕ → List A) where
-  pub positions-append : (ws vs : List Vertex) → positionsOf P (ws ++ vs) ≡ positionsOf P ws ++ positionsOf P vs
-  unfolding positionsOf
-  positions-append [] vs = refl
-  positions-append (x ∷ ws) vs =
-      ap (λ (l : List A). P (x .site) (x .edges) ++ l) (positions-append ws vs) ∙ sym (append-assoc (P (x .site) (x .edges)) (positionsOf P ws) (positionsOf P vs))
-
-  pub positions-retire : (ws : List Vertex) (i : ℕ) → i < length ws → positionsOf P (set ws i (retired (getD ws i nobody))) ≡ positionsOf P ws
-  unfolding positionsOf retired
-  positions-retire [] i h = let z : ⊥ = omega arith in absurd z
-  positions-retire (x ∷ ws) zero h = refl
-  positions-retire (x ∷ ws) (suc i) h = ap (λ (l : List A). P (x .site) (x .edges) ++ l) (positions-retire ws i (omega arith))
-
-  pub positions-length : (d : ℕ) → ((s : ℕ) (es : List ℕ) → length (P s es) ≡ d) → (vs : List Vertex) → length (positionsOf P vs) ≡ length vs * d
-  unfolding positionsOf
-  positions-length d h [] = omega arith
-  positions-length d h (x ∷ vs) = length-append (P (x .site) (x .edges)) (positionsOf P vs) ∙ omega (arith, h (x .site) (x .edges), positions-length d h vs)
