@@ -95,10 +95,13 @@ module _ (n : Sides) (S : List Float) (h : Float) (cluster : Bool) (f : SidesFit
   pub edges-most : edgeCount (boxOf n S h cluster) ≤ crossedCount n S h
   unfolding pointed
   edges-most =
-      omega
-      (arith, edges-are, crossed-places n S h,
-      sum-under (7 * sites n) (λ k. bit (isCrossed n S h (k / 7) (k % 7) && pointBy S (k / 7) (acrossOf n (k / 7) (k % 7)))) (λ k. bit (isCrossed n S h (k / 7) (k % 7)))
-      (λ k. bit-and-le (isCrossed n S h (k / 7) (k % 7)) (pointBy S (k / 7) (acrossOf n (k / 7) (k % 7)))))
+      omega (
+        arith,
+        edges-are,
+        crossed-places n S h,
+        sum-under (7 * sites n) (λ k. bit (isCrossed n S h (k / 7) (k % 7) && pointBy S (k / 7) (acrossOf n (k / 7) (k % 7)))) (λ k. bit (isCrossed n S h (k / 7) (k % 7)))
+            (λ k. bit-and-le (isCrossed n S h (k / 7) (k % 7)) (pointBy S (k / 7) (acrossOf n (k / 7) (k % 7)))),
+      )
 
   pub sample-sound : Sound (boxOf n S h cluster)
   unfolding none

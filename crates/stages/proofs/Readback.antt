@@ -79,8 +79,7 @@ module _ (b : Box) (mark : ℕ → ℕ → Bool) (C : Clustered b mark) where
       go false i = absurd (false≢true i)
 
   module _ (ws : List Vertex) (i : ℕ) (h : i < length ws) (room : length ws ≤ none) (once : (k : ℕ) → times b k ws ≤ 1)
-    (P : Proper b mark (getD ws i nobody)) where
-
+      (P : Proper b mark (getD ws i nobody)) where
     -- the edge e is marked at the vertex's site, and its entry in the table is i
     reads : ℕ → Bool
     reads e = mark (getD ws i nobody .site) e && eqb (find b 0 ws (owned (b .sides) (getD ws i nobody .site) e)) i

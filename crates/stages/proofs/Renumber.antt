@@ -98,8 +98,7 @@ module _ (own : ℕ → ℕ) (mark : ℕ → Bool) (i : ℕ) (one : (d e : ℕ) 
 -- ---- in the build
 
 module _ (b : Box) (mark : ℕ → ℕ → Bool) (C : Clustered b mark) (ws : List Vertex) (i : ℕ) (h : i < length ws) (room : length ws ≤ none)
-  (once : (k : ℕ) → times b k ws ≤ 1) (P : Proper b mark (getD ws i nobody)) where
-
+    (once : (k : ℕ) → times b k ws ≤ 1) (P : Proper b mark (getD ws i nobody)) where
   reads-same : (e : ℕ) (c : Bool) → mark (getD ws i nobody .site) e ≡ c
       → c && eqb (find b 0 ws (owned (b .sides) (getD ws i nobody .site) e)) i ≡ c && eqb (getD (tableOf b ws) (owned (b .sides) (getD ws i nobody .site) e) none) i
   reads-same e true m =

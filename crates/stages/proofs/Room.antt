@@ -126,9 +126,15 @@ stage-count b {vs} st = held-lengths b vs ∙ sym (held-sum b always vs) ∙ sta
 pub stage-room : (b : Box) {vs : List Vertex} → Stage b vs → 2 * length vs ≤ 3 * edgeCount b
 unfolding edgeCount
 stage-room b {vs} st =
-    omega
-    (arith, length-worth vs, stage-worth b st, cand-worth b, weight-sum b (candidates b), held-sum b always (candidates b),
-    count-always (heldKeys b (candidates b)))
+    omega (
+      arith,
+      length-worth vs,
+      stage-worth b st,
+      cand-worth b,
+      weight-sum b (candidates b),
+      held-sum b always (candidates b),
+      count-always (heldKeys b (candidates b)),
+    )
 
 pub vertices-most : (b : Box) (R E : ℕ) → edgeCount b ≤ E → length (built b R) ≤ 3 * E / 2
 vertices-most b R E h = omega (arith, stage-room b (built-stage b R))

@@ -99,9 +99,12 @@ module _ (b : Box) (r : ℕ) (os : List ℕ) where
     where
       go : (c : Bool) → times b k (cond c (set ws i (retired (getD ws i nobody)) ++ apart r (getD ws i nobody)) ws) ≡ times b k ws
       go true =
-          omega
-          (arith, total-append (keysOf b (eqb k)) (set ws i (retired (getD ws i nobody))) (apart r (getD ws i nobody)), retire-times b k ws i h,
-          apart-keys b (eqb k) r (getD ws i nobody))
+          omega (
+            arith,
+            total-append (keysOf b (eqb k)) (set ws i (retired (getD ws i nobody))) (apart r (getD ws i nobody)),
+            retire-times b k ws i h,
+            apart-keys b (eqb k) r (getD ws i nobody),
+          )
       go false = refl
 
   turn-longer : (i : ℕ) (ws : List Vertex) → length ws ≤ length (rollTurn r os i ws)

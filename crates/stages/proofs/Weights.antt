@@ -26,9 +26,12 @@ module _ (W : Vertex → ℕ) where
     unfolding total place splits
     place-le h n [] = omega arith
     place-le h n (x ∷ xs) =
-        omega
-        (arith, total-append W (cond (several x && endOf ps n) (apart 0 x) (x ∷ [])) (place ps (suc n) xs), place-le h (suc n) xs,
-        one-le h x (several x) (endOf ps n) refl)
+        omega (
+          arith,
+          total-append W (cond (several x && endOf ps n) (apart 0 x) (x ∷ [])) (place ps (suc n) xs),
+          place-le h (suc n) xs,
+          one-le h x (several x) (endOf ps n) refl,
+        )
 
     one-same : ((x : Vertex) → several x ≡ true → total W (apart 0 x) ≡ W x)
         → (x : Vertex) (c d : Bool) → several x ≡ c → total W (cond (c && d) (apart 0 x) (x ∷ [])) ≡ W x
@@ -42,9 +45,12 @@ module _ (W : Vertex → ℕ) where
     unfolding total place splits
     place-same h n [] = refl
     place-same h n (x ∷ xs) =
-        omega
-        (arith, total-append W (cond (several x && endOf ps n) (apart 0 x) (x ∷ [])) (place ps (suc n) xs), place-same h (suc n) xs,
-        one-same h x (several x) (endOf ps n) refl)
+        omega (
+          arith,
+          total-append W (cond (several x && endOf ps n) (apart 0 x) (x ∷ [])) (place ps (suc n) xs),
+          place-same h (suc n) xs,
+          one-same h x (several x) (endOf ps n) refl,
+        )
 
   module _ (r : ℕ) (os : List ℕ) (once : (s : ℕ) → count (eqb s) os ≤ 1) where
     -- what x is worth afterwards: itself retired, and what it appends
