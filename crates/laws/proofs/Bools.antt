@@ -3,7 +3,7 @@ use mathlib.Core.Path.{_≡_, refl, sym}
 use mathlib.Core.Bool.{Bool, true, false, _&&_, _||_, Bool·beq, true≢false, false≢true}
 use mathlib.Core.List.{List, [], _∷_}
 use mathlib.Core.Logic.{_⊎_, inl, inr}
-use Prim.Native.Nat.{ℕ, zero, suc, _≤_, _+_}
+use Prim.Native.Nat.{ℕ, zero, suc, _≤_, _+_, _*_}
 use native.Mathlib.Omega.{arith}
 use lib.Dec.{T}
 use lib.ListN.{length}
@@ -84,6 +84,19 @@ unfolding bit
 bit-or true true n = absurd (n refl refl)
 bit-or true false n = refl
 bit-or false b n = omega arith
+
+-- of two that hold together
+pub bit-and-le : (a b : Bool) → bit (a && b) ≤ bit a
+unfolding bit
+bit-and-le true true = omega arith
+bit-and-le true false = omega arith
+bit-and-le false b = omega arith
+
+pub bit-and-part : (a b c : Bool) → bit a * bit (b && c) ≡ bit (a && b) * bit c
+unfolding bit
+bit-and-part true true c = refl
+bit-and-part true false c = omega arith
+bit-and-part false b c = omega arith
 
 -- ---- a test at all lists of n truth values
 

@@ -7,6 +7,7 @@ use native.Mathlib.Nat.{not-suc-le-zero, le-of-suc-le-suc}
 use native.Mathlib.Numerals.{add-one}
 use native.Mathlib.Omega.{arith}
 use lib.Dec.{T, eqb, ltb}
+use borrow.Author.Tests.{eqb-true}
 use lib.ListN.{length, getD, set, take, drop, replicate, length-map}
 use lib.Seq.{take-suc, take-suc-set, drop-cons, getD-at, set-at, length-take-le, take-at, drop-at}
 use Rattle.laws.specs.Bools.{bit}
@@ -357,6 +358,16 @@ module _ {A : Type 0} where
       go true h = omega (arith, h)
       go false h = omega (arith, h)
 
+  pub count-kept : (p q : A → Bool) (xs : List A) → count p (keep q xs) ≡ count (λ x. q x && p x) xs
+  unfolding count keep bit
+  count-kept p q [] = refl
+  count-kept p q (x ∷ xs) = go (q x) (count-kept p q xs)
+    where
+      go : (c : Bool) → count p (keep q xs) ≡ count (λ x. q x && p x) xs
+          → count p (cond c (x ∷ keep q xs) (keep q xs)) ≡ bit (c && p x) + count (λ x. q x && p x) xs
+      go true e = omega (arith, e)
+      go false e = omega (arith, e)
+
   pub count-joined : (p : A → Bool) (ls : List (List A)) → count p (joined ls) ≡ total (count p) ls
   unfolding joined total count
   count-joined p [] = refl
@@ -421,6 +432,25 @@ once-or-not : (n a : ℕ) → n ≤ 1 → n * a ≡ cond (ltb 0 n) a 0
 once-or-not zero a h = omega arith
 once-or-not (suc zero) a h = omega arith
 once-or-not (suc (suc n)) a h = let z : ⊥ = omega arith in absurd z
+
+-- a key among those that are kept
+pub count-key : (p : ℕ → Bool) (e : ℕ) (l : List ℕ) → count (eqb e) (keep p l) ≡ cond (p e) (count (eqb e) l) 0
+unfolding keep count bit
+count-key p e [] = zeros (p e)
+  where
+    zeros : (c : Bool) → _≡_ {A = ℕ} 0 (cond c 0 0)
+    zeros true = refl
+    zeros false = refl
+count-key p e (d ∷ l) = go (p d) (p e) (eqb e d) refl refl refl (count-key p e l)
+  where
+    go : (c q w : Bool) → p d ≡ c → p e ≡ q → eqb e d ≡ w → count (eqb e) (keep p l) ≡ cond q (count (eqb e) l) 0
+        → count (eqb e) (cond c (d ∷ keep p l) (keep p l)) ≡ cond q (bit w + count (eqb e) l) 0
+    go true true w i j m r = omega (arith, ap bit m, r)
+    go true false true i j m r = absurd (false≢true (sym j ∙ ap p (eqb-true e d m) ∙ i))
+    go true false false i j m r = omega (arith, ap bit m, r)
+    go false true true i j m r = absurd (false≢true (sym i ∙ sym (ap p (eqb-true e d m)) ∙ j))
+    go false true false i j m r = omega (arith, r)
+    go false false w i j m r = r
 
 -- a list without repeats gives a once where it has k, and never else
 pub total-once : (ks : List ℕ) (k a : ℕ) → count (eqb k) ks ≤ 1 → total (λ j. cond (eqb k j) a 0) ks ≡ cond (ltb 0 (count (eqb k) ks)) a 0

@@ -1,10 +1,10 @@
--- The definition computes the oracle's answers: masks, clusters, splits, rounds, edge table, vertex book and triangles of small boxes, from their samples. Assumes nothing.
+-- The definition computes the oracle's answers: masks, clusters, splits, rounds, edge table, vertex book, triangles and positions of small boxes, from their samples. Assumes nothing.
 use mathlib.Core.Path.{_≡_, refl}
-use mathlib.Core.Bool.{Bool, true}
+use mathlib.Core.Bool.{Bool, true, false}
 use mathlib.Core.List.{List, [], _∷_, map}
 use Prim.Native.Nat.{ℕ}
 use lib.Count.{trailingZeros}
-use lib.Ieee.{Float, binary64, lt, neg, sub, div, ofBits}
+use lib.Ieee.{Float, binary64, lt, neg, add, sub, mul, div, ofInt, ofBits}
 use Rattle.laws.specs.Bools.{bit}
 use Rattle.laws.specs.Ranges.{each, any, sum}
 use Rattle.laws.specs.Lists.{keep, count, joined}
@@ -13,9 +13,9 @@ use Rattle.tables.specs.Edges.{corners, cornerOf, labelTo, du, dv, dw, areNeigh
 use Rattle.tables.specs.Tets.{tetLabel, tetCorner, tetPairs, tetPair, edgeOf, edgeIn}
 use Rattle.tables.specs.Cases.{flat, sidesOf, mtTable, mtRow}
 use Rattle.tables.specs.FlatHoles.{holeOf, flatHoles, flatHole}
-use Rattle.sides.specs.Sides.{base, inside, finite, whenFinite, markFraction, crossing, isNear}
+use Rattle.sides.specs.Sides.{base, inside, finite, whenFinite, markFraction, pointFraction, crossing, isNear}
 use Rattle.lattice.specs.declared.Sides.{Sides}
-use Rattle.lattice.specs.Sites.{sites, inBox, siteOf, uvwOf, step}
+use Rattle.lattice.specs.Sites.{sites, inBox, siteOf, uvwOf, step, ijkOf}
 use Rattle.lattice.specs.Across.{upward, downward, acrossAt, acrossOf}
 use Rattle.tets.specs.Cells.{at, caseOf, tetOk, caseNo, onEach, tetTris, cellTris}
 use Rattle.tets.specs.March.{none, okAt, sideAt, vertexAt, cornersOf, vertexIn, resolved, proper, emitted, siteTris, slab, march}
@@ -25,22 +25,36 @@ use Rattle.topology.specs.Walk.{lowBit, found, remTurn, frTurn, compTurn, walk,
 use Rattle.topology.specs.Flat.{collapses, collapsesAt, pairsCollapse, rowFlat, isFlat}
 use Rattle.topology.specs.Topology.{kindOf, singles, topologyOf}
 use Rattle.topology.specs.Topology as topology
+use Rattle.points.specs.declared.Frame.{Frame}
+use Rattle.points.specs.Positions.{frameOf, along, position}
+use Rattle.points.specs.EdgePoints.{interpolate, edgePoint}
+use Rattle.points.specs.Means.{meanOf}
 use Rattle.stages.specs.Boxes.{Box, reach, owned}
 use Rattle.stages.specs.Vertices.{Vertex, fresh, nobody, held, keys, several, apart, filled, siteVertices, candidates}
-use Rattle.stages.specs.Meshes.{numbers, holds, find, tableOf, bookOf, fieldOf, meshOf}
+use Rattle.stages.specs.Meshes.{numbers, holds, find, tableOf, bookOf, positionsOf, fieldOf, meshOf}
 use Rattle.stages.specs.Splits.{over, overs, some, endOf, splits, place, splitCount, badPairs, split}
 use Rattle.stages.specs.Rounds.{bad, bads, clusterOf, owns, owners, isIn, rolled, retired, retire, liveAt, regrown, rollback, given, rounds, roundsDone, built}
-use Rattle.stages.specs.Samples.{endBy, endsOf, edgesOf, clustersAt, pointBy, boxOf}
+use Rattle.stages.specs.Samples.{endBy, endsOf, edgesOf, clustersAt, pointBy, boxOf, placeOf, pointsOf, positionAt}
 
 -- `unfolding stagesKey` opens the definition, so that a build computes
 unfoldable pub stagesKey : Unit {0}
-unfolding lt neg sub div ofBits trailingZeros bit each any sum keep count joined digit isSet mask corners cornerOf du dv dw areNeighbours neighbourMask labelTo tetLabel tetCorner tetPairs tetPair edgeOf edgeIn flat sidesOf mtTable mtRow holeOf flatHoles flatHole inside finite whenFinite markFraction crossing isNear sites inBox siteOf uvwOf step upward downward acrossAt acrossOf at caseOf tetOk caseNo onEach tetTris cellTris none okAt sideAt vertexAt cornersOf vertexIn resolved proper emitted siteTris slab march runs touches markedBy marked maskAt masksOf crossedBy isCrossed crossedCount lowBit found remTurn frTurn compTurn walk first componentsIn components collapses collapsesAt pairsCollapse rowFlat isFlat kindOf singles topology.caseOf topologyOf reach owned fresh nobody held keys several apart filled siteVertices candidates numbers holds find tableOf bookOf fieldOf meshOf over overs some endOf splits place splitCount badPairs split bad bads clusterOf owns owners isIn rolled retired retire liveAt regrown rollback given rounds roundsDone built endBy endsOf edgesOf clustersAt pointBy boxOf
+unfolding lt neg add sub mul div ofInt ofBits trailingZeros bit each any sum keep count joined digit isSet mask corners cornerOf du dv dw areNeighbours neighbourMask labelTo tetLabel tetCorner tetPairs tetPair edgeOf edgeIn flat sidesOf mtTable mtRow holeOf flatHoles flatHole inside finite whenFinite markFraction pointFraction crossing isNear sites inBox siteOf uvwOf step ijkOf upward downward acrossAt acrossOf at caseOf tetOk caseNo onEach tetTris cellTris none okAt sideAt vertexAt cornersOf vertexIn resolved proper emitted siteTris slab march runs touches markedBy marked maskAt masksOf crossedBy isCrossed crossedCount lowBit found remTurn frTurn compTurn walk first componentsIn components collapses collapsesAt pairsCollapse rowFlat isFlat kindOf singles topology.caseOf topologyOf reach owned fresh nobody held keys several apart filled siteVertices candidates numbers holds find tableOf bookOf fieldOf meshOf over overs some endOf splits place splitCount badPairs split bad bads clusterOf owns owners isIn rolled retired retire liveAt regrown rollback given rounds roundsDone built endBy endsOf edgesOf clustersAt pointBy boxOf frameOf along position interpolate edgePoint meanOf positionsOf placeOf pointsOf positionAt
 stagesKey = tt
+
+-- numbers by their bits
+abbrev pub words : List ℕ → List Float
+words l = map (ofBits binary64) l
+
+abbrev pub frame : (a b c d e f : ℕ) → Frame
+frame a b c d e f =
+    frameOf (record { x = ofBits binary64 a; y = ofBits binary64 b; z = ofBits binary64 c }) (record { x = ofBits binary64 d; y = ofBits binary64 e; z = ofBits binary64 f })
 
 pub record Input : Type 0 where
   pub sides : Sides
   pub cluster : Bool
   pub rounds : ℕ
+  -- the frame: the origin's three coordinates, then the step's
+  pub frame : Frame
   pub samples : List Float
 
 pub record Answer : Type 0 where
@@ -52,6 +66,7 @@ pub record Answer : Type 0 where
   pub table : List ℕ
   pub book : List ℕ
   pub triangles : List ℕ
+  pub positions : List Float
 
 -- of a box and its vertices at the end
 unfoldable pub answerOf : Input → Box → List Vertex → Answer
@@ -64,6 +79,7 @@ answerOf i b vs = record {
   table = tableOf b vs;
   book = bookOf vs;
   triangles = flat (meshOf b vs);
+  positions = positionsOf (positionAt (i .frame) (i .sides) (i .samples)) vs;
 }
 
 unfoldable pub answer : Input → Answer
@@ -77,7 +93,8 @@ centre = record {
   sides = record { nu = 3; nv = 3; nw = 3 };
   cluster = true;
   rounds = 4;
-  samples = map (ofBits binary64)
+  frame = frame 0x0000000000000000 0x0000000000000000 0x0000000000000000 0x3FF0000000000000 0x3FF0000000000000 0x3FF0000000000000;
+  samples = words
       (0x3FF0000000000000 ∷ 0x3FF0000000000000 ∷ 0x3FF0000000000000 ∷ 0x3FF0000000000000 ∷ 0x3FF0000000000000 ∷ 0x3FF0000000000000 ∷ 0x3FF0000000000000
       ∷ 0x3FF0000000000000 ∷ 0x3FF0000000000000 ∷ 0x3FF0000000000000 ∷ 0x3FF0000000000000 ∷ 0x3FF0000000000000 ∷ 0x3FF0000000000000 ∷ 0xBFF0000000000000
       ∷ 0x3FF0000000000000 ∷ 0x3FF0000000000000 ∷ 0x3FF0000000000000 ∷ 0x3FF0000000000000 ∷ 0x3FF0000000000000 ∷ 0x3FF0000000000000 ∷ 0x3FF0000000000000
@@ -107,6 +124,11 @@ centre-is : answer centre ≡ record {
       (13 ∷ 7 ∷ 7 ∷ 0 ∷ 14 ∷ 1 ∷ 1 ∷ 0 ∷ 16 ∷ 1 ∷ 1 ∷ 0 ∷ 17 ∷ 1 ∷ 1 ∷ 0 ∷ 22 ∷ 1 ∷ 1 ∷ 0 ∷ 23 ∷ 1 ∷ 1 ∷ 0 ∷ 25 ∷ 1 ∷ 1 ∷ 0 ∷ 26 ∷ 1 ∷ 1 ∷ 0 ∷ []);
   triangles =
       (0 ∷ 1 ∷ 3 ∷ 0 ∷ 3 ∷ 2 ∷ 0 ∷ 5 ∷ 1 ∷ 0 ∷ 4 ∷ 5 ∷ 0 ∷ 2 ∷ 6 ∷ 0 ∷ 6 ∷ 4 ∷ 1 ∷ 7 ∷ 3 ∷ 1 ∷ 5 ∷ 7 ∷ 5 ∷ 4 ∷ 7 ∷ 3 ∷ 7 ∷ 2 ∷ 2 ∷ 7 ∷ 6 ∷ 7 ∷ 4 ∷ 6 ∷ []);
+  positions = words
+      (0xBFE6DB6DB6DB6DB6 ∷ 0x0000000000000000 ∷ 0xBFE6DB6DB6DB6DB6 ∷ 0xBFF8000000000000 ∷ 0x3FE0000000000000 ∷ 0xBFF0000000000000 ∷ 0xBFF8000000000000
+      ∷ 0xBFE0000000000000 ∷ 0xBFF0000000000000 ∷ 0xC000000000000000 ∷ 0x0000000000000000 ∷ 0xBFF0000000000000 ∷ 0xBFE0000000000000 ∷ 0x0000000000000000
+      ∷ 0xBFF8000000000000 ∷ 0xBFF0000000000000 ∷ 0x3FE0000000000000 ∷ 0xBFF8000000000000 ∷ 0xBFF0000000000000 ∷ 0xBFE0000000000000 ∷ 0xBFF8000000000000
+      ∷ 0xBFF8000000000000 ∷ 0x0000000000000000 ∷ 0xBFF8000000000000 ∷ []);
 }
 unfolding centre answer answerOf stagesKey
 centre-is = refl
@@ -117,7 +139,8 @@ deep = record {
   sides = record { nu = 3; nv = 3; nw = 3 };
   cluster = true;
   rounds = 4;
-  samples = map (ofBits binary64)
+  frame = frame 0x0000000000000000 0x0000000000000000 0x0000000000000000 0x3FF0000000000000 0x3FF0000000000000 0x3FF0000000000000;
+  samples = words
       (0x3FF0000000000000 ∷ 0x3FF0000000000000 ∷ 0x3FF0000000000000 ∷ 0x3FF0000000000000 ∷ 0x3FF0000000000000 ∷ 0x3FF0000000000000 ∷ 0x3FF0000000000000
       ∷ 0x3FF0000000000000 ∷ 0x3FF0000000000000 ∷ 0x3FF0000000000000 ∷ 0x3FF0000000000000 ∷ 0x3FF0000000000000 ∷ 0x3FF0000000000000 ∷ 0xC008000000000000
       ∷ 0x3FF0000000000000 ∷ 0x3FF0000000000000 ∷ 0x3FF0000000000000 ∷ 0x3FF0000000000000 ∷ 0x3FF0000000000000 ∷ 0x3FF0000000000000 ∷ 0x3FF0000000000000
@@ -150,6 +173,13 @@ deep-is : answer deep ≡ record {
   triangles =
       (0 ∷ 1 ∷ 3 ∷ 0 ∷ 5 ∷ 1 ∷ 0 ∷ 4 ∷ 5 ∷ 0 ∷ 3 ∷ 2 ∷ 0 ∷ 2 ∷ 6 ∷ 0 ∷ 6 ∷ 4 ∷ 1 ∷ 7 ∷ 3 ∷ 1 ∷ 5 ∷ 7 ∷ 2 ∷ 3 ∷ 8 ∷ 2 ∷ 8 ∷ 6 ∷ 3 ∷ 7 ∷ 9 ∷ 3 ∷ 9 ∷ 8 ∷ 4 ∷ 10 ∷ 5
       ∷ 4 ∷ 6 ∷ 10 ∷ 5 ∷ 11 ∷ 7 ∷ 5 ∷ 10 ∷ 11 ∷ 6 ∷ 8 ∷ 12 ∷ 6 ∷ 12 ∷ 10 ∷ 7 ∷ 13 ∷ 9 ∷ 7 ∷ 11 ∷ 13 ∷ 11 ∷ 10 ∷ 13 ∷ 9 ∷ 13 ∷ 8 ∷ 8 ∷ 13 ∷ 12 ∷ 13 ∷ 10 ∷ 12 ∷ []);
+  positions = words
+      (0xBFD0000000000000 ∷ 0x0000000000000000 ∷ 0xBFD0000000000000 ∷ 0xBFF0000000000000 ∷ 0x3FE8000000000000 ∷ 0xBFD0000000000000 ∷ 0xBFF0000000000000
+      ∷ 0xBFE8000000000000 ∷ 0xBFD0000000000000 ∷ 0xBFFC000000000000 ∷ 0x0000000000000000 ∷ 0xBFD0000000000000 ∷ 0x3FE0000000000000 ∷ 0x0000000000000000
+      ∷ 0xBFF0000000000000 ∷ 0xBFD0000000000000 ∷ 0x3FE8000000000000 ∷ 0xBFF0000000000000 ∷ 0xBFD0000000000000 ∷ 0xBFE8000000000000 ∷ 0xBFF0000000000000
+      ∷ 0xBFFC000000000000 ∷ 0x3FE8000000000000 ∷ 0xBFF0000000000000 ∷ 0xBFFC000000000000 ∷ 0xBFE8000000000000 ∷ 0xBFF0000000000000 ∷ 0xC004000000000000
+      ∷ 0x0000000000000000 ∷ 0xBFF0000000000000 ∷ 0xBFD0000000000000 ∷ 0x0000000000000000 ∷ 0xBFFC000000000000 ∷ 0xBFF0000000000000 ∷ 0x3FE8000000000000
+      ∷ 0xBFFC000000000000 ∷ 0xBFF0000000000000 ∷ 0xBFE8000000000000 ∷ 0xBFFC000000000000 ∷ 0xBFFC000000000000 ∷ 0x0000000000000000 ∷ 0xBFFC000000000000 ∷ []);
 }
 unfolding deep answer answerOf stagesKey
 deep-is = refl
@@ -160,7 +190,8 @@ parted = record {
   sides = record { nu = 2; nv = 3; nw = 2 };
   cluster = true;
   rounds = 4;
-  samples = map (ofBits binary64)
+  frame = frame 0x0000000000000000 0x0000000000000000 0x0000000000000000 0x3FF0000000000000 0x3FF0000000000000 0x3FF0000000000000;
+  samples = words
       (0x3FE0000000000000 ∷ 0x4008000000000000 ∷ 0x3FE0000000000000 ∷ 0x4008000000000000 ∷ 0x4008000000000000 ∷ 0x4008000000000000 ∷ 0x4008000000000000
       ∷ 0x4008000000000000 ∷ 0x4008000000000000 ∷ 0xC008000000000000 ∷ 0x4008000000000000 ∷ 0x4008000000000000 ∷ []);
 }
@@ -182,17 +213,23 @@ parted-is : answer parted ≡ record {
       (0 ∷ 1 ∷ 1 ∷ 0 ∷ 2 ∷ 1 ∷ 1 ∷ 0 ∷ 9 ∷ 1 ∷ 1 ∷ 0 ∷ 9 ∷ 1 ∷ 1 ∷ 0 ∷ 9 ∷ 1 ∷ 1 ∷ 0 ∷ 9 ∷ 1 ∷ 1 ∷ 0 ∷ 9 ∷ 1 ∷ 1 ∷ 0 ∷ 11 ∷ 1 ∷ 1 ∷ 0 ∷ []);
   triangles =
       (0 ∷ 5 ∷ 6 ∷ 0 ∷ 4 ∷ 5 ∷ 0 ∷ 3 ∷ 4 ∷ 0 ∷ 6 ∷ 1 ∷ 0 ∷ 1 ∷ 2 ∷ 0 ∷ 2 ∷ 3 ∷ 1 ∷ 6 ∷ 7 ∷ 1 ∷ 7 ∷ 2 ∷ []);
+  positions = words
+      (0xBFC2492492492492 ∷ 0x0000000000000000 ∷ 0xBFC2492492492492 ∷ 0xBFF0000000000000 ∷ 0xBFEB6DB6DB6DB6DC ∷ 0xBFC2492492492492 ∷ 0xBFE0000000000000
+      ∷ 0xBFE0000000000000 ∷ 0xBFF0000000000000 ∷ 0x0000000000000000 ∷ 0x0000000000000000 ∷ 0xBFF0000000000000 ∷ 0xBFE0000000000000 ∷ 0x3FE0000000000000
+      ∷ 0xBFF0000000000000 ∷ 0xBFF0000000000000 ∷ 0x3FE0000000000000 ∷ 0xBFE0000000000000 ∷ 0xBFF8000000000000 ∷ 0x0000000000000000 ∷ 0xBFE0000000000000
+      ∷ 0xBFF8000000000000 ∷ 0xBFE0000000000000 ∷ 0xBFF0000000000000 ∷ []);
 }
 unfolding parted answer answerOf stagesKey
 parted-is = refl
 
--- a split and a round: 3 x 2 x 2, 16 vertices, 17 triangles, 2 split, rounds done 1
+-- a split and a round, in another frame: 3 x 2 x 2, 16 vertices, 17 triangles, 2 split, rounds done 1
 unfoldable one-round : Input
 one-round = record {
   sides = record { nu = 3; nv = 2; nw = 2 };
   cluster = true;
   rounds = 4;
-  samples = map (ofBits binary64)
+  frame = frame 0x3FE0000000000000 0xC002000000000000 0x408F40CCCCCCCCCD 0x3FB999999999999A 0x3FE6666666666666 0x4008000000000000;
+  samples = words
       (0x3FF0000000000000 ∷ 0xBFF0000000000000 ∷ 0xC008000000000000 ∷ 0xC008000000000000 ∷ 0x3FE0000000000000 ∷ 0x4008000000000000 ∷ 0xC008000000000000
       ∷ 0x4008000000000000 ∷ 0xC008000000000000 ∷ 0xC008000000000000 ∷ 0xBFF0000000000000 ∷ 0x4008000000000000 ∷ []);
 }
@@ -217,6 +254,14 @@ one-round-is : answer one-round ≡ record {
   triangles =
       (2 ∷ 10 ∷ 15 ∷ 2 ∷ 15 ∷ 4 ∷ 14 ∷ 15 ∷ 10 ∷ 14 ∷ 10 ∷ 9 ∷ 9 ∷ 10 ∷ 0 ∷ 9 ∷ 0 ∷ 6 ∷ 3 ∷ 0 ∷ 10 ∷ 3 ∷ 10 ∷ 2 ∷ 11 ∷ 13 ∷ 12 ∷ 11 ∷ 12 ∷ 5 ∷ 7 ∷ 14 ∷ 13 ∷ 7
       ∷ 13 ∷ 11 ∷ 12 ∷ 13 ∷ 4 ∷ 2 ∷ 4 ∷ 13 ∷ 2 ∷ 13 ∷ 8 ∷ 8 ∷ 13 ∷ 14 ∷ 8 ∷ 14 ∷ 9 ∷ []);
+  positions = words
+      (0x3FE0000000000000 ∷ 0xC002EEEEEEEEEEEE ∷ 0x408F3CCCCCCCCCCD ∷ 0x3FD9999999999999 ∷ 0xBFFA333333333334 ∷ 0x408F3DCCCCCCCCCD ∷ 0x3FD5555555555555
+      ∷ 0xC002000000000000 ∷ 0x408F38CCCCCCCCCD ∷ 0x3FD41D41D41D41D4 ∷ 0xC002CCCCCCCCCCCD ∷ 0x408F40CCCCCCCCCD ∷ 0x3FD5555555555555 ∷ 0xC000222222222222
+      ∷ 0x408F40CCCCCCCCCD ∷ 0x3FCFFFFFFFFFFFFF ∷ 0xBFF3333333333334 ∷ 0x408F40CCCCCCCCCD ∷ 0x3FE199999999999A ∷ 0xBFFE666666666666 ∷ 0x408F28CCCCCCCCCD
+      ∷ 0x3FDCCCCCCCCCCCCD ∷ 0xBFF3333333333334 ∷ 0x408F28CCCCCCCCCD ∷ 0x3FD8000000000000 ∷ 0xC00099999999999A ∷ 0x408F28CCCCCCCCCD ∷ 0x3FDB333333333334
+      ∷ 0xC00099999999999A ∷ 0x408F28CCCCCCCCCD ∷ 0x3FDCCCCCCCCCCCCD ∷ 0xC002000000000000 ∷ 0x408F34CCCCCCCCCD ∷ 0x3FD4CCCCCCCCCCCC ∷ 0xBFF3333333333334
+      ∷ 0x408F2ECCCCCCCCCD ∷ 0x3FD6666666666666 ∷ 0xBFF8CCCCCCCCCCCD ∷ 0x408F40CCCCCCCCCD ∷ 0x3FD8000000000000 ∷ 0xBFF8CCCCCCCCCCCD ∷ 0x408F3ACCCCCCCCCD
+      ∷ 0x3FDB333333333334 ∷ 0xBFF8CCCCCCCCCCCD ∷ 0x408F3ACCCCCCCCCD ∷ 0x3FDCCCCCCCCCCCCD ∷ 0xBFFE666666666666 ∷ 0x408F40CCCCCCCCCD ∷ []);
 }
 unfolding one-round answer answerOf stagesKey
 one-round-is = refl
@@ -227,7 +272,8 @@ beyond = record {
   sides = record { nu = 2; nv = 2; nw = 3 };
   cluster = true;
   rounds = 4;
-  samples = map (ofBits binary64)
+  frame = frame 0x0000000000000000 0x0000000000000000 0x0000000000000000 0x3FF0000000000000 0x3FF0000000000000 0x3FF0000000000000;
+  samples = words
       (0xBFF0000000000000 ∷ 0xC008000000000000 ∷ 0xC008000000000000 ∷ 0xC008000000000000 ∷ 0x3FF0000000000000 ∷ 0xBFE0000000000000 ∷ 0xFFF0000000000000
       ∷ 0x3FF0000000000000 ∷ 0xC008000000000000 ∷ 0x4008000000000000 ∷ 0xC008000000000000 ∷ 0xC008000000000000 ∷ []);
 }
@@ -252,6 +298,14 @@ beyond-is : answer beyond ≡ record {
   triangles =
       (12 ∷ 14 ∷ 13 ∷ 12 ∷ 13 ∷ 4 ∷ 6 ∷ 3 ∷ 12 ∷ 6 ∷ 12 ∷ 4 ∷ 12 ∷ 11 ∷ 14 ∷ 10 ∷ 0 ∷ 6 ∷ 10 ∷ 6 ∷ 4 ∷ 5 ∷ 6 ∷ 0 ∷ 5 ∷ 0 ∷ 9 ∷ 9 ∷ 0 ∷ 2 ∷ 9 ∷ 2 ∷ 8 ∷ 0 ∷ 1 ∷ 2
       ∷ []);
+  positions = words
+      (0x3FE8000000000000 ∷ 0x0000000000000000 ∷ 0xBFF4000000000000 ∷ 0x3FF0000000000000 ∷ 0xBFD0000000000000 ∷ 0xBFF4000000000000 ∷ 0x3FF4000000000000
+      ∷ 0x0000000000000000 ∷ 0xBFF4000000000000 ∷ 0x3FE0000000000000 ∷ 0x0000000000000000 ∷ 0xBFE0000000000000 ∷ 0xBFD5555555555555 ∷ 0x3FE5555555555556
+      ∷ 0xBFF0000000000000 ∷ 0x3FC2492492492492 ∷ 0x3FF0000000000000 ∷ 0xBFF2492492492492 ∷ 0x3FD5555555555555 ∷ 0x3FE5555555555556 ∷ 0xBFF0000000000000
+      ∷ 0xBFECCCCCCCCCCCCD ∷ 0x0000000000000000 ∷ 0xBFE999999999999A ∷ 0x3FF8000000000000 ∷ 0x3FE0000000000000 ∷ 0xC000000000000000 ∷ 0x3FE0000000000000
+      ∷ 0x3FE0000000000000 ∷ 0xC000000000000000 ∷ 0xBFE8000000000000 ∷ 0x0000000000000000 ∷ 0xBFF4000000000000 ∷ 0xBFF0000000000000 ∷ 0xBFD0000000000000
+      ∷ 0xBFE8000000000000 ∷ 0xBFE0000000000000 ∷ 0x0000000000000000 ∷ 0xBFE0000000000000 ∷ 0xBFF0000000000000 ∷ 0x3FD0000000000000 ∷ 0xBFE8000000000000
+      ∷ 0xBFF4000000000000 ∷ 0x0000000000000000 ∷ 0xBFE8000000000000 ∷ []);
 }
 unfolding beyond answer answerOf stagesKey
 beyond-is = refl
@@ -262,7 +316,8 @@ pointless = record {
   sides = record { nu = 2; nv = 2; nw = 1 };
   cluster = true;
   rounds = 4;
-  samples = map (ofBits binary64)
+  frame = frame 0x0000000000000000 0x0000000000000000 0x0000000000000000 0x3FF0000000000000 0x3FF0000000000000 0x3FF0000000000000;
+  samples = words
       (0x7FF0000000000000 ∷ 0x4008000000000000 ∷ 0x4008000000000000 ∷ 0xBFE0000000000000 ∷ []);
 }
 
@@ -281,9 +336,52 @@ pointless-is : answer pointless ≡ record {
       (3 ∷ 2 ∷ 2 ∷ 0 ∷ []);
   triangles =
       ([]);
+  positions = words
+      (0xBFFDB6DB6DB6DB6E ∷ 0x0000000000000000 ∷ 0x0000000000000000 ∷ []);
 }
 unfolding pointless answer answerOf stagesKey
 pointless-is = refl
+
+-- not clustered, twelve triangles in a cell: 2 x 2 x 2, 12 vertices, 12 triangles, 0 split, rounds done 0
+unfoldable plain : Input
+plain = record {
+  sides = record { nu = 2; nv = 2; nw = 2 };
+  cluster = false;
+  rounds = 4;
+  frame = frame 0x0000000000000000 0x0000000000000000 0x0000000000000000 0x3FF0000000000000 0x3FF0000000000000 0x3FF0000000000000;
+  samples = words
+      (0xBFF0000000000000 ∷ 0x3FF0000000000000 ∷ 0x3FF0000000000000 ∷ 0x3FF0000000000000 ∷ 0x3FF0000000000000 ∷ 0x3FF0000000000000 ∷ 0x3FF0000000000000
+      ∷ 0xBFF0000000000000 ∷ []);
+}
+
+plain-is : answer plain ≡ record {
+  crossed = 12;
+  masks =
+      (0 ∷ 128 ∷ 512 ∷ 256 ∷ 8192 ∷ 1024 ∷ 4096 ∷ 14208 ∷ []);
+  clusters =
+      ([] ∷ ((7 ∷ []) ∷ []) ∷ ((9 ∷ []) ∷ []) ∷ ((8 ∷ []) ∷ []) ∷ ((13 ∷ []) ∷ []) ∷ ((10 ∷ []) ∷ []) ∷ ((12 ∷ []) ∷ [])
+      ∷ ((7 ∷ []) ∷ (8 ∷ []) ∷ (9 ∷ []) ∷ (10 ∷ []) ∷ (12 ∷ []) ∷ (13 ∷ []) ∷ []) ∷ []);
+  split = 0;
+  rounds = 0;
+  table =
+      (0 ∷ 2 ∷ 1 ∷ 4 ∷ none ∷ 5 ∷ 3 ∷ none ∷ none ∷ none ∷ none ∷ none ∷ 10 ∷ none ∷ none ∷ none ∷ none ∷ 9 ∷ none ∷ none ∷ none ∷ none ∷ none ∷ none ∷ none
+      ∷ none ∷ none ∷ 11 ∷ none ∷ 7 ∷ none ∷ none ∷ none ∷ none ∷ none ∷ none ∷ none ∷ 8 ∷ none ∷ none ∷ none ∷ none ∷ 6 ∷ none ∷ none ∷ none ∷ none ∷ none
+      ∷ none ∷ none ∷ none ∷ none ∷ none ∷ none ∷ none ∷ none ∷ []);
+  book =
+      (1 ∷ 1 ∷ 1 ∷ 0 ∷ 2 ∷ 1 ∷ 1 ∷ 0 ∷ 3 ∷ 1 ∷ 1 ∷ 0 ∷ 4 ∷ 1 ∷ 1 ∷ 0 ∷ 5 ∷ 1 ∷ 1 ∷ 0 ∷ 6 ∷ 1 ∷ 1 ∷ 0 ∷ 7 ∷ 1 ∷ 1 ∷ 0 ∷ 7 ∷ 1 ∷ 1 ∷ 0 ∷ 7 ∷ 1 ∷ 1 ∷ 0 ∷ 7 ∷ 1 ∷ 1
+      ∷ 0 ∷ 7 ∷ 1 ∷ 1 ∷ 0 ∷ 7 ∷ 1 ∷ 1 ∷ 0 ∷ []);
+  triangles =
+      (11 ∷ 2 ∷ 0 ∷ 11 ∷ 0 ∷ 10 ∷ 10 ∷ 0 ∷ 4 ∷ 10 ∷ 4 ∷ 8 ∷ 8 ∷ 4 ∷ 3 ∷ 8 ∷ 3 ∷ 7 ∷ 9 ∷ 1 ∷ 2 ∷ 9 ∷ 2 ∷ 11 ∷ 6 ∷ 5 ∷ 1 ∷ 6 ∷ 1 ∷ 9 ∷ 7 ∷ 3 ∷ 5 ∷ 7 ∷ 5 ∷ 6 ∷ []);
+  positions = words
+      (0xBFE0000000000000 ∷ 0x3FE0000000000000 ∷ 0x0000000000000000 ∷ 0xBFE0000000000000 ∷ 0xBFE0000000000000 ∷ 0x0000000000000000 ∷ 0xBFF0000000000000
+      ∷ 0x0000000000000000 ∷ 0x0000000000000000 ∷ 0x3FE0000000000000 ∷ 0x0000000000000000 ∷ 0xBFE0000000000000 ∷ 0x0000000000000000 ∷ 0x3FE0000000000000
+      ∷ 0xBFE0000000000000 ∷ 0x0000000000000000 ∷ 0xBFE0000000000000 ∷ 0xBFE0000000000000 ∷ 0xBFE0000000000000 ∷ 0xBFE0000000000000 ∷ 0xBFF0000000000000
+      ∷ 0x0000000000000000 ∷ 0x0000000000000000 ∷ 0xBFF0000000000000 ∷ 0xBFE0000000000000 ∷ 0x3FE0000000000000 ∷ 0xBFF0000000000000 ∷ 0xBFF0000000000000
+      ∷ 0xBFE0000000000000 ∷ 0xBFE0000000000000 ∷ 0xBFF0000000000000 ∷ 0x3FE0000000000000 ∷ 0xBFE0000000000000 ∷ 0xBFF8000000000000 ∷ 0x0000000000000000
+      ∷ 0xBFE0000000000000 ∷ []);
+}
+unfolding plain answer answerOf stagesKey
+plain-is = refl
 
 -- an owner is rolled back that is the third corner of a bad triangle only: 3 x 3 x 3, 26 vertices, 35 triangles, 2 split, rounds done 1
 unfoldable third : Input
@@ -291,7 +389,8 @@ third = record {
   sides = record { nu = 3; nv = 3; nw = 3 };
   cluster = true;
   rounds = 4;
-  samples = map (ofBits binary64)
+  frame = frame 0x0000000000000000 0x0000000000000000 0x0000000000000000 0x3FF0000000000000 0x3FF0000000000000 0x3FF0000000000000;
+  samples = words
       (0x3FE0000000000000 ∷ 0xBFE0000000000000 ∷ 0xC008000000000000 ∷ 0xC008000000000000 ∷ 0x3FF0000000000000 ∷ 0xC008000000000000 ∷ 0xC008000000000000
       ∷ 0xC008000000000000 ∷ 0xC008000000000000 ∷ 0xC008000000000000 ∷ 0xC008000000000000 ∷ 0xC008000000000000 ∷ 0xC008000000000000 ∷ 0x3FE0000000000000
       ∷ 0x3FF0000000000000 ∷ 0xC008000000000000 ∷ 0xC008000000000000 ∷ 0xC008000000000000 ∷ 0xC008000000000000 ∷ 0xC008000000000000 ∷ 0xC008000000000000
@@ -327,6 +426,19 @@ third-is : answer third ≡ record {
       ∷ 24 ∷ 15 ∷ 14 ∷ 24 ∷ 14 ∷ 13 ∷ 16 ∷ 24 ∷ 23 ∷ 16 ∷ 23 ∷ 2 ∷ 23 ∷ 24 ∷ 11 ∷ 9 ∷ 11 ∷ 24 ∷ 9 ∷ 24 ∷ 13 ∷ 2 ∷ 10 ∷ 4 ∷ 10 ∷ 7 ∷ 4 ∷ 16 ∷ 2 ∷ 12 ∷ 2 ∷ 3 ∷ 12
       ∷ 3 ∷ 2 ∷ 4 ∷ 8 ∷ 9 ∷ 6 ∷ 8 ∷ 6 ∷ 7 ∷ 17 ∷ 13 ∷ 14 ∷ 13 ∷ 17 ∷ 9 ∷ 6 ∷ 9 ∷ 17 ∷ 7 ∷ 5 ∷ 4 ∷ 7 ∷ 6 ∷ 5 ∷ 3 ∷ 18 ∷ 12 ∷ 6 ∷ 17 ∷ 18 ∷ 18 ∷ 3 ∷ 4 ∷ 18 ∷ 4 ∷ 5
       ∷ 18 ∷ 5 ∷ 6 ∷ []);
+  positions = words
+      (0x0000000000000000 ∷ 0xBFA2492492492492 ∷ 0xBFBB6DB6DB6DB6DB ∷ 0xBFF0E38E38E38E38 ∷ 0x3FE71C71C71C71C8 ∷ 0xBFBC71C71C71C71C ∷ 0xC001555555555555
+      ∷ 0xBFB5555555555555 ∷ 0xBFB5555555555555 ∷ 0xBFF4924924924924 ∷ 0x0000000000000000 ∷ 0xBFF0000000000000 ∷ 0xBFF2492492492492 ∷ 0xBFC2492492492492
+      ∷ 0xBFF0000000000000 ∷ 0xBFF0000000000000 ∷ 0xBFC2492492492492 ∷ 0xBFF2492492492492 ∷ 0xBFEB6DB6DB6DB6DC ∷ 0x0000000000000000 ∷ 0xBFF2492492492492
+      ∷ 0xBFEB6DB6DB6DB6DC ∷ 0xBFC2492492492492 ∷ 0xBFF0000000000000 ∷ 0xBFE6DB6DB6DB6DB7 ∷ 0x0000000000000000 ∷ 0xBFF0000000000000 ∷ 0xBFEB6DB6DB6DB6DC
+      ∷ 0x3FC2492492492492 ∷ 0xBFF0000000000000 ∷ 0xBFF0000000000000 ∷ 0xBFC2492492492492 ∷ 0xBFEB6DB6DB6DB6DC ∷ 0xBFF0000000000000 ∷ 0x3FE0000000000000
+      ∷ 0xBFE0000000000000 ∷ 0xC002000000000000 ∷ 0x3FE8000000000000 ∷ 0xBFF0000000000000 ∷ 0xBFF8000000000000 ∷ 0x3FF0000000000000 ∷ 0xBFF0000000000000
+      ∷ 0xBFFC000000000000 ∷ 0x3FF4000000000000 ∷ 0xBFF0000000000000 ∷ 0xC000000000000000 ∷ 0x3FF4000000000000 ∷ 0xBFE8000000000000 ∷ 0xC002000000000000
+      ∷ 0x3FF0000000000000 ∷ 0xBFE8000000000000 ∷ 0xBFE0000000000000 ∷ 0x3FF199999999999A ∷ 0xBFFCCCCCCCCCCCCD ∷ 0xBFFC000000000000 ∷ 0xBFD0000000000000
+      ∷ 0xBFFC000000000000 ∷ 0xBFC2492492492492 ∷ 0xBFC2492492492492 ∷ 0x0000000000000000 ∷ 0x0000000000000000 ∷ 0x3FC2492492492492 ∷ 0xBFC2492492492492
+      ∷ 0x0000000000000000 ∷ 0xBFC2492492492492 ∷ 0xBFC2492492492492 ∷ 0x3FC2492492492492 ∷ 0x0000000000000000 ∷ 0xBFC2492492492492 ∷ 0xBFF5555555555555
+      ∷ 0x3FE5555555555556 ∷ 0x0000000000000000 ∷ 0xBFF5555555555555 ∷ 0x3FF0000000000000 ∷ 0xBFD5555555555555 ∷ 0xBFE0000000000000 ∷ 0x3FE0000000000000
+      ∷ 0x0000000000000000 ∷ []);
 }
 unfolding third answer answerOf stagesKey
 third-is = refl

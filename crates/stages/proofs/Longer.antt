@@ -20,22 +20,20 @@ use Rattle.laws.specs.Lists.{keep}
 use Rattle.tables.specs.Cases.{Tri}
 use Rattle.tets.specs.Cells.{cellTris, onEach}
 use Rattle.tets.specs.March.{cornersOf, emitted, march, none, okAt, proper, resolved, sideAt, siteTris, slab, vertexAt, vertexIn}
+use Rattle.laws.proofs.Bools.{and-apart, and-yes}
 use Rattle.laws.proofs.Ranges.{each-longer}
 
-and-of : (p q p′ q′ : Bool) → (p ≡ true → p′ ≡ true) → (q ≡ true → q′ ≡ true) → p && q ≡ true → p′ && q′ ≡ true
-and-of true true p′ q′ i j h = λ k. i refl k && j refl k
-and-of true false p′ q′ i j h = absurd (false≢true h)
-and-of false q p′ q′ i j h = absurd (false≢true h)
+not-down : (a b : Bool) → (b ≡ true → a ≡ true) → not a ≡ true → not b ≡ true
+not-down true b i h = absurd (false≢true h)
+not-down false true i h = i refl
+not-down false false i h = refl
 
-not-of : (a a′ : Bool) → (a′ ≡ true → a ≡ true) → not a ≡ true → not a′ ≡ true
-not-of true a′ i h = absurd (false≢true h)
-not-of false true i h = i refl
-not-of false false i h = refl
-
-three-of : (a b c a′ b′ c′ : Bool) → (a′ ≡ true → a ≡ true) → (b′ ≡ true → b ≡ true) → (c′ ≡ true → c ≡ true)
+three-down : (a b c a′ b′ c′ : Bool) → (a′ ≡ true → a ≡ true) → (b′ ≡ true → b ≡ true) → (c′ ≡ true → c ≡ true)
     → not a && not b && not c ≡ true → not a′ && not b′ && not c′ ≡ true
-three-of a b c a′ b′ c′ i j k =
-    and-of (not a && not b) (not c) (not a′ && not b′) (not c′) (and-of (not a) (not b) (not a′) (not b′) (not-of a a′ i) (not-of b b′ j)) (not-of c c′ k)
+three-down a b c a′ b′ c′ i j k h =
+    let p = and-apart (not a && not b) (not c) h in
+    let q = and-apart (not a) (not b) (p .0) in
+    and-yes (and-yes (not-down a a′ i (q .0)) (not-down b b′ j (q .1))) (not-down c c′ k (p .1))
 
 module _ (g f : ℕ → ℕ) (K : Finer g f) where
   eq-down : (d e : ℕ) → eqb (g d) (g e) ≡ true → eqb (f d) (f e) ≡ true
@@ -47,11 +45,12 @@ module _ (g f : ℕ → ℕ) (K : Finer g f) where
   tri-kept : (t : Tri) → emitted (onEach f t) ≡ true → emitted (onEach g t) ≡ true
   unfolding emitted resolved proper onEach
   tri-kept t h =
-      and-of (resolved (onEach f t)) (proper (onEach f t)) (resolved (onEach g t)) (proper (onEach g t))
-      (three-of (eqb (f (t .0)) none) (eqb (f (t .1)) none) (eqb (f (t .2)) none) (eqb (g (t .0)) none) (eqb (g (t .1)) none) (eqb (g (t .2)) none)
-      (gone-down (t .0)) (gone-down (t .1)) (gone-down (t .2)))
-      (three-of (eqb (f (t .0)) (f (t .1))) (eqb (f (t .1)) (f (t .2))) (eqb (f (t .0)) (f (t .2))) (eqb (g (t .0)) (g (t .1))) (eqb (g (t .1)) (g (t .2)))
-      (eqb (g (t .0)) (g (t .2))) (eq-down (t .0) (t .1)) (eq-down (t .1) (t .2)) (eq-down (t .0) (t .2))) h
+      let p = and-apart (resolved (onEach f t)) (proper (onEach f t)) h in
+      and-yes
+      (three-down (eqb (f (t .0)) none) (eqb (f (t .1)) none) (eqb (f (t .2)) none) (eqb (g (t .0)) none) (eqb (g (t .1)) none) (eqb (g (t .2)) none)
+      (gone-down (t .0)) (gone-down (t .1)) (gone-down (t .2)) (p .0))
+      (three-down (eqb (f (t .0)) (f (t .1))) (eqb (f (t .1)) (f (t .2))) (eqb (f (t .0)) (f (t .2))) (eqb (g (t .0)) (g (t .1))) (eqb (g (t .1)) (g (t .2)))
+      (eqb (g (t .0)) (g (t .2))) (eq-down (t .0) (t .1)) (eq-down (t .1) (t .2)) (eq-down (t .0) (t .2)) (p .1))
 
   pub tris-longer : (ts : List Tri) → length (keep emitted (map (onEach f) ts)) ≤ length (keep emitted (map (onEach g) ts))
   unfolding keep

@@ -1,7 +1,8 @@
 -- The box of a build, made of its samples: marks, clusters and points. Assumes nothing.
-use mathlib.Core.Bool.{Bool, false, _&&_}
+use mathlib.Core.Path.{_≡_}
+use mathlib.Core.Bool.{Bool, true, false, _&&_}
 use mathlib.Core.List.{List, [], _∷_, _++_, map}
-use Prim.Native.Nat.{ℕ}
+use Prim.Native.Nat.{ℕ, _/_, _%_, _<_}
 use lib.ListN.{take}
 use lib.Ieee.{Float}
 use Rattle.laws.specs.Ranges.{each}
@@ -13,9 +14,9 @@ use Rattle.sides.specs.Sides.{inside, finite, whenFinite}
 use Rattle.lattice.specs.declared.Sides.{Sides}
 use Rattle.lattice.specs.declared.OtherEnd.{OtherEnd}
 use Rattle.lattice.specs.declared.OtherEnd.the-variants as end
-use Rattle.lattice.specs.Sites.{uvwOf, ijkOf}
+use Rattle.lattice.specs.Sites.{sites, uvwOf, ijkOf}
 use Rattle.lattice.specs.Across.{acrossOf}
-use Rattle.marks.specs.Marks.{sample, maskAt}
+use Rattle.marks.specs.Marks.{sample, maskAt, isCrossed}
 use Rattle.topology.specs.Topology.{topologyOf}
 use Rattle.points.specs.declared.Frame.{Frame}
 use Rattle.points.specs.declared.Point.{Point}
@@ -57,6 +58,14 @@ boxOf n S h cluster = record {
   clusters = clustersAt n S h cluster;
   point = λ s e. pointBy S s (acrossOf n s e);
 }
+
+-- the owned edge at place k of the edge table is crossed, and both its ends are finite
+unfoldable pub pointed : Sides → List Float → Float → ℕ → Bool
+pointed n S h k = isCrossed n S h (k / 7) (k % 7) && pointBy S (k / 7) (acrossOf n (k / 7) (k % 7))
+
+-- every sample of the box is finite
+unfoldable pub AllFinite : Sides → List Float → Type 0
+AllFinite n S = (s : ℕ) → s < sites n → finite (sample S s) ≡ true
 
 -- ---- positions
 
