@@ -1,7 +1,7 @@
 -- What splits and what is rolled back, by the flags of the sides of the flat triangle list. Assumes nothing.
 use mathlib.Core.Path.{_≡_, refl, ap, sym, _∙_}
 use mathlib.Core.Logic.{_≢_}
-use mathlib.Core.Bool.{Bool, true, false, not, _&&_, _||_, cond, false≢true}
+use mathlib.Core.Bool.{Bool, true, false, not, _&&_, _||_, false≢true}
 use mathlib.Core.List.{List, [], _∷_}
 use Prim.Native.Nat.{ℕ, zero, suc, _+_, _*_, _/_, _%_, _<_}
 use native.Mathlib.Omega.{arith}
@@ -16,11 +16,11 @@ use Rattle.laws.specs.Ranges.{any}
 use Rattle.laws.specs.Lists.{All, count, keep}
 use Rattle.laws.specs.Couples.{Pair, fromTo}
 use Rattle.tables.specs.Cases.{Tri, flat, sidesOf}
-use Rattle.tets.specs.March.{Field, emitted, march, proper, resolved, siteTris, slab}
+use Rattle.tets.specs.March.{proper}
 use Rattle.tets.specs.Runs.{runs, touches}
 use Rattle.pairs.specs.Sides.{directed, joins, next, pairCount}
 use Rattle.laws.proofs.Bools.{and-apart, bool-ext, bools-at}
-use Rattle.laws.proofs.Ranges.{any-one, any-same, any-some, each-all}
+use Rattle.laws.proofs.Ranges.{any-one, any-same, any-some}
 use Rattle.laws.proofs.Lists.{all-member, count-find, count-kept, count-some}
 use Rattle.pairs.proofs.Sides.{directed-at, directed-length}
 use Rattle.pairs.specs.Sides as pairs
@@ -38,23 +38,6 @@ module _ {A : Type 0} where
   some-keep : (f p : A → Bool) (xs : List A) → some f (keep p xs) ≡ some (λ x. p x && f x) xs
   unfolding some
   some-keep f p xs = ap (ltb 0) (count-kept f p xs)
-
--- ---- every triangle of a march is proper
-
-emitted-proper : (ts : List Tri) → All (λ t. proper t ≡ true) (keep emitted ts)
-unfolding keep All emitted
-emitted-proper [] = tt
-emitted-proper (t ∷ ts) = go (resolved t) (proper t) refl (emitted-proper ts)
-  where
-    go : (a c : Bool) → proper t ≡ c → All (λ t. proper t ≡ true) (keep emitted ts) → All (λ t. proper t ≡ true) (cond (a && c) (t ∷ keep emitted ts) (keep emitted ts))
-    go true true e h = (e, h)
-    go true false e h = h
-    go false c e h = h
-
-pub march-proper : (F : Field) → All (λ t. proper t ≡ true) (march F)
-unfolding march slab siteTris
-march-proper F =
-    each-all (λ t. proper t ≡ true) (F .box .nw) _ (λ w lw. each-all (λ t. proper t ≡ true) (F .box .nv) _ (λ v lv. each-all (λ t. proper t ≡ true) (F .box .nu) _ (λ u lu. emitted-proper _)))
 
 -- the three corners differ
 pub record Apart (t : Tri) : Type 0 where
@@ -124,10 +107,10 @@ module _ (p q : ℕ) (ne : p ≢ q) where
       (all-once (eqb (t .0) p) (eqb (t .1) p) (eqb (t .2) p) (eqb (t .0) q) (eqb (t .1) q) (eqb (t .2) q)) k)
 
   -- THE TRIANGLES ON A PAIR ARE THE SIDES THAT THE PAIR IS
-  pub touch-count : (ts : List Tri) → All (λ t. proper t ≡ true) ts → count (touches p q) ts ≡ pairCount p q (flat ts)
+  pub touch-sides : (ts : List Tri) → All (λ t. proper t ≡ true) ts → count (touches p q) ts ≡ pairCount p q (flat ts)
   unfolding count pairCount directed flat All
-  touch-count [] h = refl
-  touch-count (t ∷ ts) h = omega (arith, tri-sides t (proper-apart t (h .0)), touch-count ts (h .1))
+  touch-sides [] h = refl
+  touch-sides (t ∷ ts) h = omega (arith, tri-sides t (proper-apart t (h .0)), touch-sides ts (h .1))
 
 -- ---- the flat list
 
@@ -166,7 +149,7 @@ sides-apart (t ∷ ts) h = let s = proper-apart t (h .0) in (s .first, (s .secon
 module _ (ts : List Tri) (P : All (λ t. proper t ≡ true) ts) where
   over-pair : (x y : ℕ) → x ≢ y → over ts (x, y) ≡ ltb 2 (pairCount x y (flat ts))
   unfolding over
-  over-pair x y n = ap (ltb 2) (touch-count x y n ts P)
+  over-pair x y n = ap (ltb 2) (touch-sides x y n ts P)
 
   sides-long : length (sidesOf ts) ≡ length (flat ts)
   sides-long = ap length (sym (flat-directed ts)) ∙ directed-length (flat ts) ∙ omega (arith, flat-length ts)

@@ -1,0 +1,2 @@
+-- Demand 3 of the definition: the surface of a build is closed.
+pub mod Surface

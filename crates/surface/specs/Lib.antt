@@ -1,0 +1,2 @@
+-- What is asked of the samples.
+pub mod Border

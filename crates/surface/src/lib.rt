@@ -1,0 +1,1 @@
+// The surface of a build is closed: no function, only what is proved of the definition.
