@@ -334,7 +334,7 @@ ones-own (suc k) m h = omega (arith, ones-own k (m / 2) (half-lt k m h), ones-st
 
 -- ---- the mask of the places that pass a test
 
-low-bit : (b x : ℕ) → b ≤ 1 → ((b + 2 * x) % 2 ≡ b) × ((b + 2 * x) / 2 ≡ x)
+pub low-bit : (b x : ℕ) → b ≤ 1 → ((b + 2 * x) % 2 ≡ b) × ((b + 2 * x) / 2 ≡ x)
 low-bit b x h = (omega arith, omega arith)
 
 pub mask-digit : (n : ℕ) (p : ℕ → Bool) (e : ℕ) → e < n → digit (mask n p) e ≡ bit (p e)

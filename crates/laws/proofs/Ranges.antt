@@ -280,11 +280,6 @@ module _ {A : Type 0} where
   each-keep p zero f = refl
   each-keep p (suc n) f = keep-append p (each n f) (f n) ∙ ap (λ (l : List A). l ++ keep p (f n)) (each-keep p n f)
 
-  pub each-longer : (f g : ℕ → List A) → ((i : ℕ) → length (f i) ≤ length (g i)) → (n : ℕ) → length (each n f) ≤ length (each n g)
-  unfolding each
-  each-longer f g h zero = omega arith
-  each-longer f g h (suc n) = omega (arith, length-append (each n f) (f n), length-append (each n g) (g n), h n, each-longer f g h n)
-
 pub each-joined : {A B : Type 0} (f : A → List B) (n : ℕ) (h : ℕ → List A) → joined (map f (each n h)) ≡ each n (λ s. joined (map f (h s)))
 unfolding joined each
 each-joined f zero h = refl

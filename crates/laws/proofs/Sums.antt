@@ -15,6 +15,7 @@ use Rattle.laws.specs.Digits.{mask}
 use Rattle.laws.specs.Ranges.{sum, each}
 use Rattle.laws.specs.Lists.{count, total}
 use Rattle.laws.proofs.Bools.{bit-le}
+use Rattle.laws.proofs.Digits.{low-bit}
 use Rattle.laws.proofs.Ranges.{lt-or}
 use Rattle.laws.proofs.Lists.{total-append, count-append}
 
@@ -137,12 +138,9 @@ unfolding onesIn mask
 mask-ones zero p = sym (sum-none (λ e. bit (p e)))
 mask-ones (suc n) p =
     let r = mask n (λ e. p (suc e)) in
-    let a : (bit (p 0) + 2 * r) % 2 ≡ bit (p 0) = low (bit (p 0)) r (bit-le (p 0)) .0 in
-    let b : (bit (p 0) + 2 * r) / 2 ≡ r = low (bit (p 0)) r (bit-le (p 0)) .1 in
+    let a : (bit (p 0) + 2 * r) % 2 ≡ bit (p 0) = low-bit (bit (p 0)) r (bit-le (p 0)) .0 in
+    let b : (bit (p 0) + 2 * r) / 2 ≡ r = low-bit (bit (p 0)) r (bit-le (p 0)) .1 in
     omega (arith, a, ap (onesIn n) b, mask-ones n (λ e. p (suc e)), sum-front n (λ e. bit (p e)))
-  where
-    low : (b x : ℕ) → b ≤ 1 → ((b + 2 * x) % 2 ≡ b) × ((b + 2 * x) / 2 ≡ x)
-    low b x h = (omega arith, omega arith)
 
 -- a sum, and a count, over joined lists
 pub each-total : {A : Type 0} (W : A → ℕ) (n : ℕ) (f : ℕ → List A) → total W (each n f) ≡ sum n (λ i. total W (f i))

@@ -18,6 +18,7 @@ use Rattle.laws.specs.Couples.{Pair, fromTo}
 use Rattle.tables.specs.Cases.{Tri, flat, sidesOf}
 use Rattle.tets.specs.March.{proper}
 use Rattle.tets.specs.Runs.{runs, touches}
+use Rattle.tets.proofs.Flat.{flat-length}
 use Rattle.pairs.specs.Sides.{directed, joins, next, pairCount}
 use Rattle.laws.proofs.Bools.{and-apart, bool-ext, bools-at}
 use Rattle.laws.proofs.Ranges.{any-one, any-same, any-some}
@@ -113,11 +114,6 @@ module _ (p q : ℕ) (ne : p ≢ q) where
   touch-sides (t ∷ ts) h = omega (arith, tri-sides t (proper-apart t (h .0)), touch-sides ts (h .1))
 
 -- ---- the flat list
-
-flat-length : (ts : List Tri) → length (flat ts) ≡ 3 * length ts
-unfolding flat
-flat-length [] = refl
-flat-length (t ∷ ts) = omega (arith, flat-length ts)
 
 abbrev pub nowhere : Tri
 nowhere = (0, 0, 0)

@@ -6,6 +6,7 @@ pub mod Lookup
 pub mod Finer
 pub mod Longer
 pub mod Table
+pub mod Marched
 pub mod Order
 pub mod Turns
 pub mod Book

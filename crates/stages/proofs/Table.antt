@@ -31,11 +31,15 @@ module _ (b : Box) where
   unfolding tableOf numbers
   table-length vs = length-map (numbers (7 * sites (b .sides))) (find b 0 vs) ∙ each-one-length (7 * sites (b .sides)) (λ i. i)
 
-  pub table-at : (vs : List Vertex) (k : ℕ) → k < 7 * sites (b .sides) → getD (tableOf b vs) k none ≡ find b 0 vs k
+  -- its entries, whatever is read past its end
+  pub table-entry : (d : ℕ) (vs : List Vertex) (k : ℕ) → k < 7 * sites (b .sides) → getD (tableOf b vs) k d ≡ find b 0 vs k
   unfolding tableOf numbers
-  table-at vs k h =
-      getD-map (find b 0 vs) (numbers (7 * sites (b .sides))) k 0 none (omega (arith, each-one-length (7 * sites (b .sides)) (λ i. i)))
+  table-entry d vs k h =
+      getD-map (find b 0 vs) (numbers (7 * sites (b .sides))) k 0 d (omega (arith, each-one-length (7 * sites (b .sides)) (λ i. i)))
       ∙ ap (find b 0 vs) (each-one-at 0 (7 * sites (b .sides)) (λ i. i) k h)
+
+  pub table-at : (vs : List Vertex) (k : ℕ) → k < 7 * sites (b .sides) → getD (tableOf b vs) k none ≡ find b 0 vs k
+  table-at = table-entry none
 
   -- ---- lookups in a longer list
 

@@ -23,7 +23,7 @@ use Rattle.tables.proofs.Cases.{mt-none}
 use Rattle.tables.proofs.Edges.{steps-lt}
 use Rattle.lattice.specs.declared.Sides.{Sides}
 use Rattle.lattice.specs.Sites.{sites, inBox, siteOf, step}
-use Rattle.lattice.proofs.Sites.{site-lt}
+use Rattle.lattice.proofs.Sites.{site-lt, step-step}
 use Rattle.tets.specs.Cells.{Corners, at, caseOf, tetOk, caseNo, onEach, tetTris, cellTris}
 use Rattle.tets.specs.March.{Field, none, okAt, sideAt, vertexAt, cornersOf, vertexIn, resolved, proper, emitted, siteTris, slab, march}
 use Rattle.tets.specs.Runs.{crossed}
@@ -129,15 +129,6 @@ tet-good ok side t l h = go (tetOk ok t)
 cell-good : (ok side : Corners) → length side ≡ 8 → All (Corner (λ e. T (good side e))) (cellTris ok side)
 unfolding cellTris
 cell-good ok side l = each-all _ 6 (tetTris ok side) (λ t h. tet-good ok side t l h)
-
-step-step : (d d′ u : ℕ) → d + d′ < 2 → step d′ (step d u) ≡ step (d + d′) u
-unfolding step
-step-step zero zero u h = refl
-step-step zero (suc zero) u h = refl
-step-step zero (suc (suc d′)) u h = absurd (omega arith)
-step-step (suc zero) zero u h = refl
-step-step (suc zero) (suc d′) u h = absurd (omega arith)
-step-step (suc (suc d)) d′ u h = absurd (omega arith)
 
 step-lt : (d u n : ℕ) → suc u < n → step d u < n
 unfolding step
