@@ -1,3 +1,4 @@
 -- The laws of one site's vertices: where its edges lead, and their places in the edge table.
 pub mod Ends
 pub mod Places
+pub mod Drawing

@@ -13,6 +13,7 @@ ghost use Rattle.lattice.specs.Across.{acrossOf};
 ghost use Rattle.marks.specs.Loops.{Sampled};
 ghost use Rattle.stages.specs.Boxes.{reach, owned};
 ghost use Rattle.stages.specs.Samples.{endBy, endsOf, placeOf};
+ghost use Rattle.vertices.specs.Drawing.{joinEdge, claimEdge, joinTo, claimTo, Drawable};
 
 // The finite sample at the other end of an edge.
 fn end_at(n: Sides, samples: &[f64], s: usize, e: usize) -> Sample
@@ -87,4 +88,58 @@ fn place_of(frame: Frame, n: Sides, samples: &[f64], s: usize, e: usize) -> Edge
             points::edge_point(frame, a, b, samples[s], samples[t])
         }
     }
+}
+
+// One edge of a vertex: where it is wanted and has a point, the point joins the sum, and the edge's place takes the vertex's number.
+fn draw_edge(
+    frame: Frame,
+    n: Sides,
+    samples: &[f64],
+    table: &mut [u32],
+    s: usize,
+    e: usize,
+    wanted: bool,
+    id: u32,
+    sum: Sum,
+) -> Sum
+    requires { ⌜ Drawable n (now samples) (now table) s × (e < 14) × (sum .count < 14) ⌝ }
+    ensures { λ r. ⌜ r ≡ joinEdge frame n (now (samples .entry)) s e wanted sum ⌝ }
+    ensures { λ _. ⌜ now (table .exit) ≡ claimEdge frame n (now (samples .entry)) s e wanted id (now (table .entry)) ⌝ }
+{
+    if wanted {
+        let place = place_of(frame, n, samples, s, e);
+        match place {
+            EdgePoint::Missing => sum,
+            EdgePoint::At(p) => {
+                let k = edge_place(n, s, e);
+                table[k] = id;
+                points::with_point(sum, p)
+            }
+        }
+    } else {
+        sum
+    }
+}
+
+// The vertex of a cluster: the sum of the points on its edges, whose places in the edge table take its number.
+pub fn draw_cluster(
+    frame: Frame,
+    n: Sides,
+    samples: &[f64],
+    table: &mut [u32],
+    s: usize,
+    mask: u16,
+    id: u32,
+) -> Sum
+    requires { ⌜ Drawable n (now samples) (now table) s ⌝ }
+    ensures { λ r. ⌜ r ≡ joinTo frame n (now (samples .entry)) s mask 14 ⌝ }
+    ensures { λ _. ⌜ now (table .exit) ≡ claimTo frame n (now (samples .entry)) s mask id 14 (now (table .entry)) ⌝ }
+{
+    let mut sum = points::no_points();
+    let mut rest = mask;
+    for e in 0..14 {
+        sum = draw_edge(frame, n, samples, table, s, e, rest % 2 == 1, id, sum);
+        rest = rest / 2;
+    }
+    sum
 }

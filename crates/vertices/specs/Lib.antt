@@ -1,0 +1,2 @@
+-- What the loops of one site do, edge by edge.
+pub mod Drawing
