@@ -2,3 +2,4 @@
 pub mod Ends
 pub mod Places
 pub mod Drawing
+pub mod Clusters

@@ -1,6 +1,7 @@
 -- `vertices::edge_place` meets its contract. Assumes nothing.
 use native.Mathlib.Omega.{arith}
-use mathlib.Core.Path.{sym}
+use mathlib.Core.Path.{sym, ap, _∙_}
+use Prim.Native.Nat.{ℕ, _+_, _*_, _-_}
 use Rattle.lattice.proofs.Sites.{sites-most}
 use Rattle.stages.proofs.SampleMarks.{owned-low, owned-high}
 use borrow.Author.Needs.{needs}
@@ -26,7 +27,9 @@ add-result-2 : tie.Need-add-result-2
 add-result-2 c = let s = c .before .before .before in omega (arith, s .pre .1, sites-most (s .args .n) (s .pre .0), s .pre .2)
 
 returns-2 : tie.Need-returns-2
-returns-2 c = let s = c .before .before .before .args in rw (c .before .reach-of .ensures) (sym (owned-high (s .n) (s .s) (s .e) (c .before .before .if1 .left)))
+returns-2 c =
+    let s = c .before .before .before .args in
+    ap (λ (x : ℕ). 7 * (s .s - x) + (s .e - 7)) (c .before .reach-of .ensures) ∙ sym (owned-high (s .n) (s .s) (s .e) (c .before .before .if1 .left))
 
 returns-3 : tie.Need-returns-3
 returns-3 c = let s = c .before .before .before .args in omega (arith, c .if2 .left, c .before .reach-of .ensures, owned-high (s .n) (s .s) (s .e) (c .before .before .if1 .left))
