@@ -65,6 +65,16 @@ module _ (f : Frame) (n : Sides) (S : List Float) (s e : ℕ) where
   joined-count true q = join-count (placeOf f n S s (acrossOf n s e)) q
   joined-count false q = omega arith
 
+-- ---- a mask taken apart digit by digit: r is what is left of m behind its k lowest digits
+
+pub rest-set : (m k r : ℕ) → ((j : ℕ) → digit r j ≡ digit m (k + j)) → eqb (r % 2) 1 ≡ isSet m k
+unfolding isSet digit
+rest-set m k r d = let z : k + 0 ≡ k = omega arith in ap (λ (x : ℕ). eqb x 1) (d 0 ∙ ap (digit m) z)
+
+pub rest-half : (m k r : ℕ) → ((j : ℕ) → digit r j ≡ digit m (k + j)) → (j : ℕ) → digit (r / 2) j ≡ digit m (k + 1 + j)
+unfolding digit
+rest-half m k r d j = let z : k + suc j ≡ k + 1 + j = omega arith in d (suc j) ∙ ap (digit m) z
+
 -- ---- the loop: after k edges the table is t, the sum q, and the rest of the mask r
 
 pub record Drawn (f : Frame) (n : Sides) (S : List Float) (s m i : ℕ) (t₀ : List ℕ) (k : ℕ) (t : List ℕ) (q : Sum) (r : ℕ) : Type 0 where
@@ -89,16 +99,15 @@ module _ (f : Frame) (n : Sides) (S : List Float) (s m i : ℕ) (t₀ : List ℕ
 
   module _ (k : ℕ) (t t′ : List ℕ) (q q′ : Sum) (r : ℕ) (b : Bool) (d : Drawn f n S s m i t₀ k t q r) (h : k < 14) (w : b ≡ eqb (r % 2) 1) where
     wanted : b ≡ isSet m k
-    unfolding isSet digit
-    wanted = let z : k + 0 ≡ k = omega arith in w ∙ ap (λ (x : ℕ). eqb x 1) (d .rest 0 ∙ ap (digit m) z)
+    wanted = w ∙ rest-set m k r (d .rest)
 
     pub drawn-turn : q′ ≡ joinEdge f n S s k b q → t′ ≡ claimEdge f n S s k b i t → length t′ ≡ length t → Drawn f n S s m i t₀ (k + 1) t′ q′ (r / 2)
-    unfolding joinTo claimTo digit
+    unfolding joinTo claimTo
     drawn-turn a c l = record {
       low = omega arith;
       sum = fold-turn _ k _ q q′ (d .sum) (a ∙ ap (λ (x : Bool). joinEdge f n S s k x q) wanted);
       table = fold-turn _ k _ t t′ (d .table) (c ∙ ap (λ (x : Bool). claimEdge f n S s k x i t) wanted);
       long = l ∙ d .long;
       few = rw a (omega (arith, joined-count f n S s k b q, d .few));
-      rest = λ j. let z : k + suc j ≡ k + 1 + j = omega arith in d .rest (suc j) ∙ ap (digit m) z;
+      rest = rest-half m k r (d .rest);
     }

@@ -3,3 +3,4 @@ pub mod Ends
 pub mod Places
 pub mod Drawing
 pub mod Clusters
+pub mod Appending

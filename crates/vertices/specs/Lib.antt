@@ -1,2 +1,3 @@
--- What the loops of one site do, edge by edge.
+-- What the loops of one site do, edge by edge, and what it is to append vertices.
 pub mod Drawing
+pub mod Appending

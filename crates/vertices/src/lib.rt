@@ -3,17 +3,21 @@ use lattice::OtherEnd;
 use lattice::Sides;
 use points::EdgePoint;
 use points::Frame;
+use points::Point;
 use points::Sum;
 use sides::Sample;
 ghost use mathlib.Core.Path.{_≡_};
-ghost use Prim.Native.Nat.{_*_, _<_, _≤_};
+ghost use mathlib.Core.List.{[], _∷_};
+ghost use Prim.Native.Nat.{_+_, _*_, _<_, _≤_};
 ghost use lib.ListN.{length};
+ghost use lib.Seq.{sets};
 ghost use Rattle.lattice.specs.Sites.{SidesFit, sites};
 ghost use Rattle.lattice.specs.Across.{acrossOf};
 ghost use Rattle.marks.specs.Loops.{Sampled};
 ghost use Rattle.stages.specs.Boxes.{reach, owned};
 ghost use Rattle.stages.specs.Samples.{endBy, endsOf, placeOf};
 ghost use Rattle.vertices.specs.Drawing.{joinEdge, claimEdge, joinTo, claimTo, Drawable};
+ghost use Rattle.vertices.specs.Appending.{Appended, Space, single, singlesOf};
 
 // The finite sample at the other end of an edge.
 fn end_at(n: Sides, samples: &[f64], s: usize, e: usize) -> Sample
@@ -142,4 +146,107 @@ pub fn draw_cluster(
         rest = rest / 2;
     }
     sum
+}
+
+fn put_point(positions: &mut [f64], at: usize, p: Point)
+    requires { ⌜ (at + 3 ≤ length (now positions)) × (at ≤ 3145728) ⌝ }
+    ensures { λ _. ⌜ now (positions .exit) ≡ sets (now (positions .entry)) at (p .x ∷ p .y ∷ p .z ∷ []) ⌝ }
+{
+    positions[at] = p.x;
+    positions[at + 1] = p.y;
+    positions[at + 2] = p.z;
+}
+
+fn put_row(book: &mut [u32], at: usize, s: u32, held: u32, round: u32)
+    requires { ⌜ (at + 4 ≤ length (now book)) × (at ≤ 4194304) ⌝ }
+    ensures { λ _. ⌜ now (book .exit) ≡ sets (now (book .entry)) at (s ∷ held ∷ held ∷ round ∷ []) ⌝ }
+{
+    book[at] = s;
+    book[at + 1] = held;
+    book[at + 2] = held;
+    book[at + 3] = round;
+}
+
+// A vertex made in a round: its position, and its row of the book.
+pub fn put_vertex(
+    positions: &mut [f64],
+    book: &mut [u32],
+    i: usize,
+    p: Point,
+    s: usize,
+    held: u32,
+    round: u32,
+)
+    requires { ⌜ Space (now positions) (now book) (i + 1) × (s < 4294967296) ⌝ }
+    ensures { λ _. ⌜ now (positions .exit) ≡ sets (now (positions .entry)) (3 * i) (p .x ∷ p .y ∷ p .z ∷ []) ⌝ }
+    ensures { λ _. ⌜ now (book .exit) ≡ sets (now (book .entry)) (4 * i) (s ∷ held ∷ held ∷ round ∷ []) ⌝ }
+{
+    put_point(positions, 3 * i, p);
+    put_row(book, 4 * i, s as u32, held, round);
+}
+
+// One edge as a vertex of its own, where it is wanted and has a point: the next number.
+fn draw_single(
+    frame: Frame,
+    n: Sides,
+    samples: &[f64],
+    table: &mut [u32],
+    positions: &mut [f64],
+    book: &mut [u32],
+    s: usize,
+    e: usize,
+    wanted: bool,
+    next: usize,
+    round: u32,
+) -> usize
+    requires { ⌜ Drawable n (now samples) (now table) s × (e < 14) ⌝ }
+    requires { ⌜ Space (now positions) (now book) (next + length (single n (now samples) round s e wanted)) ⌝ }
+    ensures { λ r. ⌜ Appended frame n (now (samples .entry)) (single n (now (samples .entry)) round s e wanted) next (now (table .entry)) (now (positions .entry)) (now (book .entry)) r (now (table .exit)) (now (positions .exit)) (now (book .exit)) ⌝ }
+{
+    let none = points::no_points();
+    let sum = draw_edge(frame, n, samples, table, s, e, wanted, next as u32, none);
+    if sum.count == 0 {
+        return next;
+    }
+    let p = points::mean(sum);
+    put_vertex(positions, book, next, p, s, 1, round);
+    next + 1
+}
+
+// Each edge of the mask that has a point as a vertex of its own, ascending: the next number.
+pub fn draw_singles(
+    frame: Frame,
+    n: Sides,
+    samples: &[f64],
+    table: &mut [u32],
+    positions: &mut [f64],
+    book: &mut [u32],
+    s: usize,
+    mask: u16,
+    next: usize,
+    round: u32,
+) -> usize
+    requires { ⌜ Drawable n (now samples) (now table) s ⌝ }
+    requires { ⌜ Space (now positions) (now book) (next + length (singlesOf n (now samples) round s mask)) ⌝ }
+    ensures { λ r. ⌜ Appended frame n (now (samples .entry)) (singlesOf n (now (samples .entry)) round s mask) next (now (table .entry)) (now (positions .entry)) (now (book .entry)) r (now (table .exit)) (now (positions .exit)) (now (book .exit)) ⌝ }
+{
+    let mut at = next;
+    let mut rest = mask;
+    for e in 0..14 {
+        at = draw_single(
+            frame,
+            n,
+            samples,
+            table,
+            positions,
+            book,
+            s,
+            e,
+            rest % 2 == 1,
+            at,
+            round,
+        );
+        rest = rest / 2;
+    }
+    at
 }
