@@ -1,11 +1,11 @@
 -- Vertices appended one after the other, edge by edge and list by list. Assumes nothing.
 use mathlib.Core.Path.{_≡_, refl, sym, ap, _∙_}
-use mathlib.Core.Bool.{Bool, true, false, _&&_, cond}
+use mathlib.Core.Bool.{Bool, true, false, cond}
 use mathlib.Core.List.{List, [], _∷_, _++_, map}
 use Prim.Native.Nat.{ℕ, zero, suc, _+_, _*_, _-_, _/_, _%_, _≤_, _<_}
 use native.Mathlib.Omega.{arith}
 use lib.Dec.{eqb}
-use lib.ListN.{length, length-append}
+use lib.ListN.{length, set, length-append}
 use lib.Seq.{sets, length-sets}
 use lib.Ieee.{Float}
 use Rattle.laws.specs.Digits.{digit, isSet}
@@ -14,26 +14,22 @@ use Rattle.laws.specs.Lists.{keep}
 use Rattle.laws.proofs.Ranges.{each-none, each-more, each-add}
 use Rattle.laws.proofs.Lists.{keep-append, map-append}
 use Rattle.laws.proofs.Written.{sets-append}
-use Rattle.sides.specs.Sides.{finite}
 use Rattle.lattice.specs.declared.Sides.{Sides}
-use Rattle.lattice.specs.declared.OtherEnd.{OtherEnd}
-use Rattle.lattice.specs.declared.OtherEnd.the-variants as end
 use Rattle.lattice.specs.Across.{acrossOf}
-use Rattle.marks.specs.Marks.{sample}
 use Rattle.points.specs.declared.Frame.{Frame}
 use Rattle.points.specs.declared.Point.{Point}
 use Rattle.points.specs.declared.Sum.{Sum}
 use Rattle.points.specs.declared.EdgePoint.{EdgePoint}
 use Rattle.points.specs.declared.EdgePoint.the-variants as on
-use Rattle.points.specs.EdgePoints.{edgePoint}
 use Rattle.points.specs.Means.{none, meanOf, meanSum, more}
 use Rattle.stages.specs.Boxes.{Box, owned}
 use Rattle.stages.specs.Vertices.{Vertex, fresh, held, keys}
 use Rattle.stages.specs.Meshes.{bookOf, numbers, positionsOf}
 use Rattle.stages.specs.Samples.{edgesOf, placeOf, pointBy, pointsOf, positionAt}
-use Rattle.stages.specs.Steps.{paint, paintAll}
+use Rattle.stages.specs.Steps.{number, paint, paintAll}
 use Rattle.stages.proofs.Book.{book-append, book-length, positions-append, positions-length}
 use Rattle.vertices.specs.Drawing.{join, claim, joinEdge, claimEdge}
+use Rattle.vertices.proofs.Points.{isAt, point-at}
 use Rattle.vertices.proofs.Drawing.{rest-set, rest-half}
 use Rattle.vertices.specs.Appending.{Appended, Space, paintFrom, pointedOf, single, singlesOf}
 
@@ -52,6 +48,12 @@ pub paint-from : (b : Box) (i : ℕ) (vs : List Vertex) (t : List ℕ) → paint
 unfolding paintAll paintFrom keys
 paint-from b i [] t = refl
 paint-from b i (x ∷ vs) t = paint-from b (suc i) vs (paint i (map (owned (b .sides) (x .site)) (held x)) t)
+
+-- vertices of one edge each are numbered one after the other
+pub paint-singles : (n : Sides) (i r s : ℕ) (es t : List ℕ) → paintFrom n i (map (λ e. fresh r s (e ∷ [])) es) t ≡ number i (map (owned n s) es) t
+unfolding paintFrom paint number held fresh
+paint-singles n i r s [] t = refl
+paint-singles n i r s (e ∷ es) t = paint-singles n (suc i) r s es (set t (owned n s e) i)
 
 module _ (f : Frame) (n : Sides) (S : List Float) where
   pub positions-three : (vs : List Vertex) → length (positionsOf (positionAt f n S) vs) ≡ length vs * 3
@@ -117,20 +119,7 @@ space-turn g p p′ b b′ i j k m s h e lp lb =
 
 -- ---- one edge as a vertex of its own
 
-isAt : EdgePoint → Bool
-isAt on.Missing = false
-isAt (on.At p) = true
-
 module _ (f : Frame) (n : Sides) (S : List Float) (s e r i : ℕ) (t : List ℕ) (p : List Float) (k : List ℕ) where
-  point-at : (o : OtherEnd) → pointBy S s o ≡ isAt (placeOf f n S s o)
-  unfolding pointBy placeOf edgePoint isAt
-  point-at end.Missing = refl
-  point-at (end.At u) = go (finite (sample S s) && finite (sample S u)) _
-    where
-      go : (c : Bool) (p : Point) → c ≡ isAt (cond c (on.At p) on.Missing)
-      go true p = refl
-      go false p = refl
-
   one : EdgePoint → List Vertex
   one on.Missing = []
   one (on.At q) = fresh r s (e ∷ []) ∷ []
@@ -143,7 +132,7 @@ module _ (f : Frame) (n : Sides) (S : List Float) (s e r i : ℕ) (t : List ℕ)
   single-one : single n S r s e true ≡ one (placeOf f n S s (acrossOf n s e))
   unfolding single pointedOf keep
   single-one =
-      ap (λ (c : Bool). map (λ e. fresh r s (e ∷ [])) (cond c (e ∷ []) [])) (point-at (acrossOf n s e)) ∙ one-is (placeOf f n S s (acrossOf n s e))
+      ap (λ (c : Bool). map (λ e. fresh r s (e ∷ [])) (cond c (e ∷ []) [])) (point-at f n S s (acrossOf n s e)) ∙ one-is (placeOf f n S s (acrossOf n s e))
 
   single-not : single n S r s e false ≡ []
   unfolding single pointedOf keep

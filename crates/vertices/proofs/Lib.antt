@@ -3,4 +3,5 @@ pub mod Ends
 pub mod Places
 pub mod Drawing
 pub mod Clusters
+pub mod Points
 pub mod Appending
