@@ -1,0 +1,3 @@
+-- What a round of rollback takes and leaves, and its turns by the lists.
+pub mod Rolling
+pub mod Turning
