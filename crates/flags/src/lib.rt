@@ -1,0 +1,143 @@
+// Flags behind the flags of the sides: which vertices are ends of a side that is over, and which sites own a live cluster vertex in a triangle with such a side.
+ghost use mathlib.Core.Path.{_≡_};
+ghost use mathlib.Core.Bool.{_||_};
+ghost use mathlib.Core.List.{_++_};
+ghost use Prim.Native.Nat.{_+_, _*_, _-_, _/_, _<_};
+ghost use lib.Dec.{ltb};
+ghost use lib.ListN.{length, getD, take, replicate};
+ghost use Rattle.laws.specs.Ranges.{any, fold};
+ghost use Rattle.pairs.specs.Sides.{over};
+ghost use Rattle.flags.specs.Flags.{Flaggable, EndsFit, OwnersFit, sideFlags, withFlags, endIn, ownerIn};
+ghost use Rattle.flags.specs.Turns.{Ready, mark, endTurn, flagged, wanted, ownerTurn};
+
+// The flags of the sides in front, zeros from a on.
+fn prepare(tris: &[u32], room: &mut [u32], a: usize)
+    requires { ⌜ Flaggable (now tris) (now room) a ⌝ }
+    ensures { λ _. ⌜ now (room .exit) ≡ take a (sideFlags (now (tris .entry)) (now (room .entry))) ++ replicate (length (now (room .entry)) - a) 0 ⌝ }
+{
+    let w = tris.len() * 3;
+    pairs::over_sides(tris, &mut room[..w]);
+    pairs::clear(&mut room[a..]);
+}
+
+// ---- ends
+
+// Side k: where it is over, both its ends get their flags.
+fn flag_side(tris: &[u32], room: &mut [u32], a: usize, k: usize, found: bool) -> bool
+    requires { ⌜ Ready (now tris) (now room) a × EndsFit (now tris) (now room) a × (k < length (now tris)) ⌝ }
+    ensures { λ r. ⌜ r ≡ found || over (now (tris .entry)) k ⌝ }
+    ensures { λ _. ⌜ now (room .exit) ≡ endTurn (now (tris .entry)) a k (now (room .entry)) ⌝ }
+{
+    if room[k] == 1 {
+        let n = pairs::next_corner(k);
+        let u = a + tris[k] as usize;
+        let v = a + tris[n] as usize;
+        room[u] = 1;
+        room[v] = 1;
+        return true;
+    }
+    found
+}
+
+// All sides; whether any is over.
+fn flag_sides(tris: &[u32], room: &mut [u32], a: usize) -> bool
+    requires { ⌜ Ready (now tris) (now room) a × EndsFit (now tris) (now room) a ⌝ }
+    ensures { λ r. ⌜ r ≡ any (length (now (tris .entry))) (over (now (tris .entry))) ⌝ }
+    ensures { λ _. ⌜ now (room .exit) ≡ fold (endTurn (now (tris .entry)) a) (length (now (tris .entry))) (now (room .entry)) ⌝ }
+{
+    let mut found = false;
+    let mut k = 0;
+    while k < tris.len() {
+        found = flag_side(tris, room, a, k, found);
+        k += 1;
+    }
+    found
+}
+
+// Which vertices are ends of a side that is over; whether any side is.
+pub fn flag_ends(tris: &[u32], room: &mut [u32], a: usize) -> bool
+    requires { ⌜ Flaggable (now tris) (now room) a × EndsFit (now tris) (now room) a ⌝ }
+    ensures { λ r. ⌜ r ≡ any (length (now (tris .entry))) (over (now (tris .entry))) ⌝ }
+    ensures { λ _. ⌜ now (room .exit) ≡ withFlags (sideFlags (now (tris .entry)) (now (room .entry))) a (length (now (room .entry)) - a) (endIn (now (tris .entry))) ⌝ }
+{
+    prepare(tris, room, a);
+    flag_sides(tris, room, a)
+}
+
+// ---- owners
+
+// Whether the triangle of corner k has a side with flag 1.
+fn in_bad(room: &[u32], k: usize) -> bool
+    requires { ⌜ (k / 3 * 3 + 2 < length (now room)) × (k / 3 * 3 + 2 < 4294967296) ⌝ }
+    ensures { λ r. ⌜ r ≡ flagged (now (room .entry)) k ⌝ }
+{
+    let n = pairs::next_corner(k);
+    let m = pairs::next_corner(n);
+    if room[k] == 1 {
+        return true;
+    }
+    if room[n] == 1 {
+        return true;
+    }
+    room[m] == 1
+}
+
+// Vertex v: where it is a live cluster vertex, its site gets its flag.
+fn flag_owner(book: &[u32], room: &mut [u32], a: usize, v: usize, found: bool) -> bool
+    requires { ⌜ (4 * v + 3 < length (now book)) × (a + getD (now book) (4 * v) 0 < length (now room)) ⌝ }
+    ensures { λ r. ⌜ r ≡ found || ltb 1 (getD (now (book .entry)) (4 * v + 1) 0) ⌝ }
+    ensures { λ _. ⌜ now (room .exit) ≡ mark a (ltb 1 (getD (now (book .entry)) (4 * v + 1) 0)) (getD (now (book .entry)) (4 * v) 0) (now (room .entry)) ⌝ }
+{
+    let w = 4 * v;
+    if 1 < book[w + 1] {
+        let u = a + book[w] as usize;
+        room[u] = 1;
+        return true;
+    }
+    found
+}
+
+// Corner k: where its triangle has a side that is over, its vertex's site may get its flag.
+fn flag_corner(
+    tris: &[u32],
+    book: &[u32],
+    room: &mut [u32],
+    a: usize,
+    k: usize,
+    found: bool,
+) -> bool
+    requires { ⌜ Ready (now tris) (now room) a × OwnersFit (now tris) (now book) (now room) a × (k < length (now tris)) ⌝ }
+    ensures { λ r. ⌜ r ≡ found || wanted (now (tris .entry)) (now (book .entry)) k ⌝ }
+    ensures { λ _. ⌜ now (room .exit) ≡ ownerTurn (now (tris .entry)) (now (book .entry)) a k (now (room .entry)) ⌝ }
+{
+    if in_bad(room, k) {
+        let v = tris[k] as usize;
+        return flag_owner(book, room, a, v, found);
+    }
+    found
+}
+
+// All corners; whether any site gets its flag.
+fn flag_corners(tris: &[u32], book: &[u32], room: &mut [u32], a: usize) -> bool
+    requires { ⌜ Ready (now tris) (now room) a × OwnersFit (now tris) (now book) (now room) a ⌝ }
+    ensures { λ r. ⌜ r ≡ any (length (now (tris .entry))) (wanted (now (tris .entry)) (now (book .entry))) ⌝ }
+    ensures { λ _. ⌜ now (room .exit) ≡ fold (ownerTurn (now (tris .entry)) (now (book .entry)) a) (length (now (tris .entry))) (now (room .entry)) ⌝ }
+{
+    let mut found = false;
+    let mut k = 0;
+    while k < tris.len() {
+        found = flag_corner(tris, book, room, a, k, found);
+        k += 1;
+    }
+    found
+}
+
+// Which sites own a live cluster vertex in a triangle with a side that is over; whether any does.
+pub fn flag_owners(tris: &[u32], book: &[u32], room: &mut [u32], a: usize) -> bool
+    requires { ⌜ Flaggable (now tris) (now room) a × OwnersFit (now tris) (now book) (now room) a ⌝ }
+    ensures { λ r. ⌜ r ≡ any (length (now (room .entry)) - a) (ownerIn (now (tris .entry)) (now (book .entry))) ⌝ }
+    ensures { λ _. ⌜ now (room .exit) ≡ withFlags (sideFlags (now (tris .entry)) (now (room .entry))) a (length (now (room .entry)) - a) (ownerIn (now (tris .entry)) (now (book .entry))) ⌝ }
+{
+    prepare(tris, room, a);
+    flag_corners(tris, book, room, a)
+}
