@@ -1,0 +1,3 @@
+-- What a build answers, and what stands in the lent lists from stage to stage.
+pub mod Answer
+pub mod Standing
