@@ -1,2 +1,3 @@
 -- Demand 3 of the definition: the surface of a build is closed.
 pub mod Surface
+pub mod Left

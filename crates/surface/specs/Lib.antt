@@ -1,2 +1,3 @@
 -- What is asked of the samples.
 pub mod Border
+pub mod Left
