@@ -5,11 +5,12 @@ use refusals::Lengths;
 ghost use mathlib.Core.Path.{_≡_};
 ghost use Prim.Native.Nat.{_*_, _≤_};
 ghost use lib.ListN.{length, replicate};
+ghost use Rattle.sides.specs.Sides.{base};
 ghost use Rattle.lattice.specs.Sites.{sites, cells};
-ghost use Rattle.marks.specs.Marks.{masksOf};
+ghost use Rattle.marks.specs.Marks.{masksOf, crossedCount};
 ghost use Rattle.marks.specs.Loops.{Sampled};
 ghost use Rattle.passes.specs.Passing.{flagOf};
-ghost use Rattle.build.specs.Answer.{order, answerOf, refusedAnswer, masksAfter, tableAfter, positionsAfter, bookAfter, trianglesAfter, edgesAfter};
+ghost use Rattle.build.specs.Answer.{order, status, answerOf, refusedAnswer, masksAfter, tableAfter, positionsAfter, bookAfter, trianglesAfter, edgesAfter};
 ghost use Rattle.build.specs.Standing.{Lent, Drawing, Roomy, Parting, Paired, Placed, Stood, TurnedAll, SettledAll, Finished, madeAnswer};
 
 // Inside is below the negative of this.
@@ -396,6 +397,52 @@ fn fill(
     made
 }
 
+// A granted request: the parts of the lists that are used, and the answer.
+fn grant(
+    n: Sides,
+    method: usize,
+    rounds: usize,
+    frame: Frame,
+    samples: &[f64],
+    masks: &mut [u16],
+    table: &mut [u32],
+    positions: &mut [f64],
+    book: &mut [u32],
+    tris: &mut [u32],
+    edges: &mut [u32],
+    crossed: usize,
+) -> Answer
+    requires { ⌜ (status (order n method rounds frame (now samples) (length (now masks)) (length (now table)) (length (now positions)) (length (now book)) (length (now tris)) (length (now edges))) ≡ 0) × (crossed ≡ crossedCount n (now samples) base) ⌝ }
+    ensures { λ r. ⌜ r ≡ answerOf (order n method rounds frame (now (samples .entry)) (length (now (masks .entry))) (length (now (table .entry))) (length (now (positions .entry))) (length (now (book .entry))) (length (now (tris .entry))) (length (now (edges .entry)))) ⌝ }
+    ensures { λ _. ⌜ now (masks .exit) ≡ masksAfter (order n method rounds frame (now (samples .entry)) (length (now (masks .entry))) (length (now (table .entry))) (length (now (positions .entry))) (length (now (book .entry))) (length (now (tris .entry))) (length (now (edges .entry)))) (now (masks .entry)) ⌝ }
+    ensures { λ _. ⌜ now (table .exit) ≡ tableAfter (order n method rounds frame (now (samples .entry)) (length (now (masks .entry))) (length (now (table .entry))) (length (now (positions .entry))) (length (now (book .entry))) (length (now (tris .entry))) (length (now (edges .entry)))) (now (table .entry)) ⌝ }
+    ensures { λ _. ⌜ now (positions .exit) ≡ positionsAfter (order n method rounds frame (now (samples .entry)) (length (now (masks .entry))) (length (now (table .entry))) (length (now (positions .entry))) (length (now (book .entry))) (length (now (tris .entry))) (length (now (edges .entry)))) (now (positions .entry)) ⌝ }
+    ensures { λ _. ⌜ now (book .exit) ≡ bookAfter (order n method rounds frame (now (samples .entry)) (length (now (masks .entry))) (length (now (table .entry))) (length (now (positions .entry))) (length (now (book .entry))) (length (now (tris .entry))) (length (now (edges .entry)))) (now (book .entry)) ⌝ }
+    ensures { λ _. ⌜ now (tris .exit) ≡ trianglesAfter (order n method rounds frame (now (samples .entry)) (length (now (masks .entry))) (length (now (table .entry))) (length (now (positions .entry))) (length (now (book .entry))) (length (now (tris .entry))) (length (now (edges .entry)))) (now (tris .entry)) ⌝ }
+    ensures { λ _. ⌜ now (edges .exit) ≡ edgesAfter (order n method rounds frame (now (samples .entry)) (length (now (masks .entry))) (length (now (table .entry))) (length (now (positions .entry))) (length (now (book .entry))) (length (now (tris .entry))) (length (now (edges .entry)))) (now (edges .entry)) ⌝ }
+{
+    let k = lattice::site_count(n);
+    let c = lattice::cell_count(n);
+    let e = 7 * k;
+    let t = 36 * c;
+    let w = 108 * c;
+    let made = fill(
+        frame,
+        n,
+        samples,
+        &mut masks[..k],
+        &mut table[..e],
+        positions,
+        book,
+        &mut tris[..t],
+        &mut edges[..w],
+        method == 1,
+        rounds,
+        THRESHOLD,
+    );
+    counted(crossed, made)
+}
+
 // The build. Nothing is stored before all that can be refused is tested.
 pub fn build(
     n: Sides,
@@ -430,24 +477,18 @@ pub fn build(
     if reply.status != 0 {
         return refused(reply.status);
     }
-    let k = lattice::site_count(n);
-    let c = lattice::cell_count(n);
-    let e = 7 * k;
-    let t = 36 * c;
-    let w = 108 * c;
-    let made = fill(
-        frame,
+    grant(
         n,
+        method,
+        rounds,
+        frame,
         samples,
-        &mut masks[..k],
-        &mut table[..e],
+        masks,
+        table,
         positions,
         book,
-        &mut tris[..t],
-        &mut edges[..w],
-        method == 1,
-        rounds,
-        THRESHOLD,
-    );
-    counted(reply.crossed, made)
+        tris,
+        edges,
+        reply.crossed,
+    )
 }
