@@ -1,0 +1,28 @@
+-- Document 01's example: what is printed for its file, computed from the definition of the build. Assumes nothing.
+use mathlib.Core.Path.{_≡_, refl, ap, _∙_}
+use mathlib.Core.List.{List}
+use Prim.Native.Nat.{ℕ}
+use lib.Ieee.{le, round}
+use Rattle.points.specs.Limits.{originOk, stepOk, originsOk, stepsOk, frameOk}
+use Rattle.lattice.specs.Sites.{sideOk, sidesOk, cells}
+use Rattle.refusals.specs.Refusals.{settingsOk, siteRoom, vertexRoom, cellRoom, most, statusOf}
+use Rattle.stages.proofs.Examples.{stagesKey}
+use Rattle.topology.specs.Topology.{caseNumber}
+use Rattle.passes.specs.Passing.{isCase, caseCount}
+use Rattle.build.specs.declared.Answer.{Answer}
+use Rattle.build.specs.Answer.{orderBox, orderVertices, orderCases, doneAnswer, refusedAnswer, answerOf}
+use Rattle.text.specs.Example.{exampleHead, exampleSamples, exampleFile, exampleAnswer, answer-is}
+use Rattle.text.proofs.Example.{example-file}
+use Rattle.count.specs.Count.{headSides, pointOf, headFrame, floatsOf, workOrder, countsOf, printed, fileAnswer, Counted}
+use Rattle.count.proofs.Counts.{counted-file}
+
+abbrev counts : Answer
+counts = record { status = 0; crossed = 14; vertices = 8; triangles = 12; closed = 0; multihole = 0; flathole = 0; multisurface = 0; simple = 8; split = 0; rounds = 0 }
+
+example-build : answerOf (workOrder exampleHead (floatsOf exampleSamples)) ≡ counts
+unfolding stagesKey le originOk stepOk originsOk stepsOk frameOk sideOk sidesOk cells settingsOk siteRoom vertexRoom cellRoom most statusOf caseNumber isCase caseCount orderBox orderVertices orderCases doneAnswer refusedAnswer answerOf headSides pointOf headFrame floatsOf
+example-build = refl
+
+pub example-printed : (t : List ℕ) → Counted exampleFile t → t ≡ exampleAnswer
+unfolding fileAnswer printed countsOf
+example-printed t c = counted-file exampleHead exampleSamples example-file c ∙ ap (printed 27) example-build ∙ answer-is

@@ -1,0 +1,4 @@
+-- Laws of the count program.
+pub mod Counts
+pub mod Status
+pub mod Example

@@ -1,0 +1,129 @@
+-- The numbers that the count program prints: 0, 1, 2, 4 and 8. A file has a sample for each site, and the work space is enough for every file. Assumes nothing.
+use mathlib.Core.Path.{_≡_, refl, sym, ap, _∙_}
+use mathlib.Core.Bool.{Bool, true, false, not, cond, _&&_}
+use mathlib.Core.List.{List}
+use Prim.Native.Nat.{ℕ, zero, suc, _-_, _*_, _≤_}
+use native.Mathlib.Omega.{arith}
+use native.Mathlib.Nat.{le-trans}
+use borrow.Author.Tests.{eq-eqb, eqb-true, le-leb}
+use lib.Dec.{eqb, leb}
+use lib.Ieee.{Float, binary64, ofBits}
+use lib.ListN.{length, getD, length-map, length-replicate}
+use lib.Seq.{length-sets, length-take-le}
+use Rattle.laws.specs.Bools.{bit}
+use Rattle.laws.specs.Ranges.{sum}
+use Rattle.laws.proofs.Bools.{bit-le}
+use Rattle.laws.proofs.Sums.{sum-le}
+use Rattle.lattice.specs.declared.Sides.{Sides}
+use Rattle.lattice.specs.Sites as box
+use Rattle.lattice.proofs.Sites.{product-le}
+use Rattle.sides.specs.Sides.{base}
+use Rattle.marks.specs.Marks.{isCrossed, crossedCount}
+use Rattle.points.specs.Limits.{frameOk}
+use Rattle.refusals.specs.Refusals.{settingsOk, siteRoom, vertexRoom, cellRoom, most, statusOf}
+use Rattle.build.specs.declared.Answer.{Answer}
+use Rattle.build.specs.Answer.{Order, status, doneAnswer, refusedAnswer, answerOf}
+use Rattle.text.specs.CountFile.{CountFile, sites, sample}
+use Rattle.text.specs.Answer.{answerText, refusalText}
+use Rattle.text.proofs.Lines.{fine-length}
+use Rattle.text.proofs.Printing.{answer-length, refusal-length}
+use Rattle.count.specs.Count.{headSides, headFrame, floatsOf, workOrder, countsOf, printed, fileAnswer, Counted, file, none, Answered, Within}
+
+-- ---- room for 216 sites
+
+crossed-room : (n : Sides) (S : List Float) (h : Float) → box.sites n ≤ 216 → crossedCount n S h ≤ 1512
+unfolding crossedCount
+crossed-room n S h l =
+    omega (
+      arith,
+      sum-le (box.sites n) 7 (λ s. sum 7 (λ l. bit (isCrossed n S h s l))) (λ s. sum-le 7 1 (λ l. bit (isCrossed n S h s l)) (λ l. bit-le (isCrossed n S h s l))),
+    )
+
+most-room : (n : Sides) (S : List Float) (h : Float) → box.sites n ≤ 216 → most n S h ≤ 2268
+unfolding most
+most-room n S h l = omega (arith, crossed-room n S h l)
+
+cells-room : (n : Sides) → box.sites n ≤ 216 → box.cells n ≤ 216
+unfolding box.sites box.cells
+cells-room n l =
+    let a : (n .nu - 1) * (n .nv - 1) ≤ n .nu * n .nv = product-le (n .nu - 1) (n .nv - 1) (n .nu) (n .nv) (omega arith) (omega arith) in
+    le-trans (product-le ((n .nu - 1) * (n .nv - 1)) (n .nw - 1) (n .nu * n .nv) (n .nw) a (omega arith)) l
+
+-- ---- the number
+
+module _ {s vs ss : List ℕ} (f : CountFile s vs ss) where
+  size : length ss ≡ sites vs
+  size = fine-length (f .body) ∙ length-replicate (sites vs) sample
+
+  -- the samples are as many as the sites
+  pub file-sites : length (floatsOf ss) ≡ box.sites (headSides vs)
+  unfolding floatsOf headSides box.sites
+  file-sites = length-map ss (ofBits binary64) ∙ size
+
+  few : box.sites (headSides vs) ≤ 216
+  unfolding headSides box.sites
+  few = f .size .most
+
+  -- Status 3 and 5 to 7 never come.
+  pub file-status : status (workOrder vs (floatsOf ss))
+      ≡ cond (not (settingsOk (getD vs 3 0) (getD vs 4 0))) 1 (cond (not (box.sidesOk (headSides vs))) 2 (cond (not (frameOk (headFrame vs))) 4 0))
+  unfolding statusOf siteRoom vertexRoom cellRoom
+  file-status =
+      let n = headSides vs in
+      let S = floatsOf ss in
+      let c = cells-room n few in
+      let x = most-room n S base few in
+      rw (
+        eq-eqb (length S) (box.sites n) file-sites,
+        le-leb (box.sites n) 216 few,
+        le-leb (7 * box.sites n) 1512 (omega (arith, few)),
+        le-leb (3 * most n S base) 6804 (omega arith),
+        le-leb (4 * most n S base) 9072 (omega arith),
+        le-leb (36 * box.cells n) 7776 (omega arith),
+        le-leb (108 * box.cells n) 23328 (omega arith),
+      )
+
+-- ---- what is printed
+
+-- twelve lines, or one of four refusals
+pub data Shown : List ℕ → Type 0 where
+  done : (counts : List ℕ) → length counts ≡ 11 → Shown (answerText counts)
+  settings : Shown (refusalText 1)
+  sides : Shown (refusalText 2)
+  frame : Shown (refusalText 4)
+  form : Shown (refusalText 8)
+
+pub answer-status : (o : Order) → answerOf o .status ≡ status o
+unfolding answerOf doneAnswer refusedAnswer
+answer-status o = go (eqb (status o) 0) refl
+  where
+    go : (b : Bool) → eqb (status o) 0 ≡ b → (cond b (doneAnswer o) (refusedAnswer (status o))) .status ≡ status o
+    go true e = sym (eqb-true (status o) 0 e)
+    go false e = refl
+
+shown : (k : ℕ) (a : Answer) (x y z : Bool) → a .status ≡ cond (not x) 1 (cond (not y) 2 (cond (not z) 4 0)) → Shown (printed k a)
+unfolding printed countsOf
+shown k a false y z e = rw e settings
+shown k a true false z e = rw e sides
+shown k a true true false e = rw e frame
+shown k a true true true e = rw e (done (countsOf k a) refl)
+
+pub counted-shown : {s t : List ℕ} → Counted s t → Shown t
+unfolding fileAnswer
+counted-shown (file {vs = vs} {ss = ss} f) =
+    shown (length ss) _ (settingsOk (getD vs 3 0) (getD vs 4 0)) (box.sidesOk (headSides vs)) (frameOk (headFrame vs)) (answer-status (workOrder vs (floatsOf ss)) ∙ file-status f)
+counted-shown (none z) = form
+
+-- it never takes more than 402 bytes
+pub shown-length : {t : List ℕ} → Shown t → length t ≤ 402
+shown-length (done counts h) = answer-length counts h
+shown-length settings = omega (arith, refusal-length 1)
+shown-length sides = omega (arith, refusal-length 2)
+shown-length frame = omega (arith, refusal-length 4)
+shown-length form = omega (arith, refusal-length 8)
+
+pub answered-within : {s l l′ : List ℕ} {r : ℕ} → length l ≡ 402 → Answered s l l′ r → Within r l′
+answered-within {l = l} {l′ = l′} {r = r} h a =
+    let n : length l′ ≡ length l = ap length (a .put .buf) ∙ length-sets l 0 (a .text) in
+    let f : r ≤ length l′ = omega (arith, a .put .next, shown-length (counted-shown (a .counted))) in
+    (f, sym (length-take-le r l′ f))

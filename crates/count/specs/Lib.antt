@@ -1,0 +1,2 @@
+-- What the count program prints.
+pub mod Count
