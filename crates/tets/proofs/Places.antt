@@ -1,57 +1,27 @@
 -- Laws of places: where a corner's sample stands, and the offsets from a site to the corners of its cell. Assumes nothing.
-use mathlib.Core.Path.{_≡_}
+use mathlib.Core.Path.{_≡_, _∙_}
 use mathlib.Core.List.{List}
-use Prim.Native.Nat.{ℕ, _+_, _*_, _/_, _%_, _≤_, _<_}
+use Prim.Native.Nat.{ℕ, _+_, _*_, _/_, _%_, _≤_}
 use native.Mathlib.Nat.{mul-le-mul-left}
 use native.Mathlib.Omega.{arith}
-use borrow.Author.Tests.{lt-ltb, le-ltb}
-use lib.ListN.{length, getD}
-use lib.Ieee.{Float, nan}
+use lib.Ieee.{Float}
 use Rattle.tables.specs.Edges.{du, dv, dw}
 use Rattle.tables.proofs.Edges.{steps-lt}
-use Rattle.sides.specs.declared.Sample.the-variants.{Missing, Value}
 use Rattle.lattice.specs.declared.Sides.{Sides}
-use Rattle.lattice.specs.Sites.{inBox, sites, siteOf, step}
-use Rattle.lattice.proofs.Sites.{site-lt, sites-most, step-add}
+use Rattle.lattice.specs.Sites.{step}
+use Rattle.lattice.proofs.Sites.{step-add}
+use Rattle.view.specs.View.{valueUvw}
+use Rattle.view.proofs.Laws.{value-box}
 use Rattle.tets.specs.Samples.{sampleAt}
 use Rattle.tets.specs.Loop.{Placed}
 
--- a site of the box is in the list
-pub place-lt : (n : Sides) (s : List Float) (u v : ℕ) (x y z k : ℕ) → Placed n s u v → x < n .nu → y < n .nv → z < n .nw → k ≡ siteOf n x y z
-    → (k < length s) × (k < 32768)
-place-lt n s u v x y z k p hx hy hz e =
-    let a : k < sites n = rw e (site-lt n (record { u = x; v = y; w = z }) (record { on-u = hx; on-v = hy; on-w = hz })) in
-    (omega (arith, p .samples), omega (arith, sites-most n (p .fit)))
-
-module _ (n : Sides) (s : List Float) (u v c : ℕ) where
-  on-u : step (du c) u ≡ u + c % 2
-  unfolding du
-  on-u = step-add (c % 2) u (steps-lt c .0)
-
-  on-v : step (dv c) v ≡ v + c / 2 % 2
-  unfolding dv
-  on-v = step-add (c / 2 % 2) v (steps-lt c .1)
-
-  on-w : step (dw c) 0 ≡ c / 4 % 2
-  unfolding dw
-  on-w = omega (arith, step-add (c / 4 % 2) 0 (steps-lt c .2))
-
-  pub sample-there : (k : ℕ) → u + c % 2 < n .nu → v + c / 2 % 2 < n .nv → c / 4 % 2 < n .nw → k ≡ siteOf n (u + c % 2) (v + c / 2 % 2) (c / 4 % 2)
-      → Value (getD s k nan) ≡ sampleAt n s (step (du c) u) (step (dv c) v) (step (dw c) 0)
-  unfolding sampleAt inBox
-  sample-there k hu hv hw e = rw (on-u, on-v, on-w, e, lt-ltb _ _ hu, lt-ltb _ _ hv, lt-ltb _ _ hw)
-
-  pub sample-past-u : n .nu ≤ u + c % 2 → Missing ≡ sampleAt n s (step (du c) u) (step (dv c) v) (step (dw c) 0)
-  unfolding sampleAt inBox
-  sample-past-u h = rw (on-u, le-ltb _ _ h)
-
-  pub sample-past-v : u + c % 2 < n .nu → n .nv ≤ v + c / 2 % 2 → Missing ≡ sampleAt n s (step (du c) u) (step (dv c) v) (step (dw c) 0)
-  unfolding sampleAt inBox
-  sample-past-v hu h = rw (on-u, on-v, lt-ltb _ _ hu, le-ltb _ _ h)
-
-  pub sample-past-w : u + c % 2 < n .nu → v + c / 2 % 2 < n .nv → n .nw ≤ c / 4 % 2 → Missing ≡ sampleAt n s (step (du c) u) (step (dv c) v) (step (dw c) 0)
-  unfolding sampleAt inBox
-  sample-past-w hu hv h = rw (on-u, on-v, on-w, lt-ltb _ _ hu, lt-ltb _ _ hv, le-ltb _ _ h)
+-- the corner c of the cell at (u, v), by the view
+pub corner-view : (n : Sides) (s : List Float) (u v c : ℕ) → Placed n s u v → valueUvw n s (u + c % 2) (v + c / 2 % 2) (c / 4 % 2) ≡ sampleAt n s (step (du c) u) (step (dv c) v) (step (dw c) 0)
+unfolding sampleAt du dv dw
+corner-view n s u v c p =
+    let b = steps-lt c in
+    let z : step (c / 4 % 2) 0 ≡ c / 4 % 2 = omega (arith, step-add (c / 4 % 2) 0 (b .2)) in
+    value-box n s (p .fit) (p .samples) (u + c % 2) (v + c / 2 % 2) (c / 4 % 2) ∙ rw (step-add (c % 2) u (b .0), step-add (c / 2 % 2) v (b .1), z)
 
 -- ---- offsets
 

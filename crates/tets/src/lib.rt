@@ -65,15 +65,7 @@ pub fn corner_sample(s: &[f64], n: Sides, u: usize, v: usize, c: usize) -> Sampl
     let x = u + c % 2;
     let y = v + c / 2 % 2;
     let z = c / 4 % 2;
-    if x < n.nu {
-        if y < n.nv {
-            if z < n.nw {
-                let k = lattice::site_number(n, Uvw { u: x, v: y, w: z });
-                return Sample::Value(s[k]);
-            }
-        }
-    }
-    Sample::Missing
+    view::sample_uvw(s, n, x, y, z)
 }
 
 // The numbers of the eight corners of a cell.

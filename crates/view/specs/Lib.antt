@@ -1,0 +1,2 @@
+-- The sample view: what it answers.
+pub mod View
