@@ -1,0 +1,268 @@
+// Reads a count file from standard input and prints the answer and then all that the build leaves behind, in the format of tools/oracle/FORMAT.md,
+// but for the lines of splits and owners.
+use build::Answer;
+use lattice::Sides;
+use libc::STDIN_FILENO;
+use libc::STDOUT_FILENO;
+ghost use Prim.Native.Nat.{_<_, _≤_};
+ghost use lib.ListN.{length};
+ghost use Rattle.lattice.specs.Sites.{sites};
+ghost use Rattle.marks.specs.Loops.{Sampled};
+
+const NONE: u32 = 0xFFFF_FFFF;
+
+// ---- words of a line
+
+fn wide(x: u32) -> u64 {
+    x as u64
+}
+
+fn wide_mask(x: u16) -> u64 {
+    x as u64
+}
+
+fn word(n: u64) {
+    io::write_all(STDOUT_FILENO, b" ");
+    io::print_decimal(STDOUT_FILENO, n);
+}
+
+fn mask_word(m: u16) {
+    io::write_all(STDOUT_FILENO, b" ");
+    io::print_hex(STDOUT_FILENO, wide_mask(m), 4);
+}
+
+fn float_word(x: f64) {
+    io::write_all(STDOUT_FILENO, b" ");
+    io::print_hex(STDOUT_FILENO, points::bits_of_float(x), 16);
+}
+
+fn end() {
+    io::write_all(STDOUT_FILENO, b"\n");
+}
+
+// ---- masks and clusters
+
+fn show_mask(s: usize, m: u16) {
+    if m != 0 {
+        io::write_all(STDOUT_FILENO, b"mask");
+        word(s as u64);
+        mask_word(m);
+        end();
+    }
+}
+
+fn show_masks(masks: &[u16]) {
+    for s in 0..masks.len() {
+        show_mask(s, masks[s]);
+    }
+}
+
+fn show_clusters(count: usize, masks: [u16; 14]) {
+    for i in 0..14 {
+        if i < count {
+            mask_word(masks[i]);
+        }
+    }
+}
+
+fn show_topology(n: Sides, samples: &[f64], s: usize, m: u16, cluster: bool)
+    requires { ⌜ Sampled n (now samples) × (s < sites n) ⌝ }
+{
+    if m == 0 {
+        return;
+    }
+    let ends = vertices::ends_of(n, samples, s);
+    let r = topology::test_topology(m, cluster, ends, build::THRESHOLD);
+    let case = r.case;
+    let clusters = r.clusters;
+    let count = clusters.count;
+    let masks = clusters.masks;
+    io::write_all(STDOUT_FILENO, b"topology");
+    word(s as u64);
+    word(topology::case_number(case) as u64);
+    word(count as u64);
+    show_clusters(count, masks);
+    end();
+}
+
+fn show_topologies(n: Sides, samples: &[f64], masks: &[u16], cluster: bool)
+    requires { ⌜ Sampled n (now samples) × (length (now masks) ≤ sites n) ⌝ }
+{
+    for s in 0..masks.len() {
+        show_topology(n, samples, s, masks[s], cluster);
+    }
+}
+
+// ---- cases of the tetrahedra
+
+fn show_cases(n: Sides, samples: &[f64], s: usize)
+    requires { ⌜ Sampled n (now samples) × (s < sites n) ⌝ }
+{
+    let p = lattice::coordinates(n, s);
+    let c = tets::site_cases(samples, n, p, build::THRESHOLD);
+    if c[0] | c[1] | c[2] | c[3] | c[4] | c[5] == 0 {
+        return;
+    }
+    io::write_all(STDOUT_FILENO, b"tets");
+    word(s as u64);
+    word(c[0] as u64);
+    word(c[1] as u64);
+    word(c[2] as u64);
+    word(c[3] as u64);
+    word(c[4] as u64);
+    word(c[5] as u64);
+    end();
+}
+
+fn show_tets(n: Sides, samples: &[f64])
+    requires { ⌜ Sampled n (now samples) ⌝ }
+{
+    let k = lattice::site_count(n);
+    for s in 0..k {
+        show_cases(n, samples, s);
+    }
+}
+
+// ---- edge table, positions, vertex book, triangles
+
+fn show_edge(i: usize, v: u32) {
+    if v != NONE {
+        io::write_all(STDOUT_FILENO, b"edge");
+        word((i / 7) as u64);
+        word((i % 7) as u64);
+        word(wide(v));
+        end();
+    }
+}
+
+fn show_edges(table: &[u32]) {
+    for i in 0..table.len() {
+        show_edge(i, table[i]);
+    }
+}
+
+fn show_coordinate(i: usize, x: f64) {
+    if i % 3 == 0 {
+        io::write_all(STDOUT_FILENO, b"position");
+        word((i / 3) as u64);
+    }
+    float_word(x);
+    if i % 3 == 2 {
+        end();
+    }
+}
+
+fn show_positions(positions: &[f64]) {
+    for i in 0..positions.len() {
+        show_coordinate(i, positions[i]);
+    }
+}
+
+fn show_entry(i: usize, x: u32) {
+    if i % 4 == 0 {
+        io::write_all(STDOUT_FILENO, b"book");
+        word((i / 4) as u64);
+    }
+    word(wide(x));
+    if i % 4 == 3 {
+        end();
+    }
+}
+
+fn show_book(book: &[u32]) {
+    for i in 0..book.len() {
+        show_entry(i, book[i]);
+    }
+}
+
+fn show_corner(i: usize, v: u32) {
+    if i % 3 == 0 {
+        io::write_all(STDOUT_FILENO, b"triangle");
+    }
+    word(wide(v));
+    if i % 3 == 2 {
+        end();
+    }
+}
+
+fn show_triangles(tris: &[u32]) {
+    for i in 0..tris.len() {
+        show_corner(i, tris[i]);
+    }
+}
+
+// ---- the whole
+
+fn least(a: usize, b: usize) -> usize
+    ensures { λ r. ⌜ (r ≤ a) × (r ≤ b) ⌝ }
+{
+    if a < b { a } else { b }
+}
+
+fn show_lists(a: Answer, table: &[u32], positions: &[f64], book: &[u32], tris: &[u32]) {
+    let v = least(a.vertices, 2268);
+    let p = least(3 * v, positions.len());
+    let b = least(4 * v, book.len());
+    let t = least(3 * least(a.triangles, 2592), tris.len());
+    show_edges(table);
+    show_positions(&positions[..p]);
+    show_book(&book[..b]);
+    show_triangles(&tris[..t]);
+}
+
+fn show_sites(n: Sides, samples: &[f64], masks: &[u16], cluster: bool)
+    requires { ⌜ Sampled n (now samples) × (length (now samples) ≤ sites n) ⌝ }
+{
+    let k = least(samples.len(), masks.len());
+    show_masks(&masks[..k]);
+    show_topologies(n, samples, &masks[..k], cluster);
+    show_tets(n, samples);
+}
+
+fn dump(head: [u64; 11], samples: &[f64]) {
+    let frame = count::frame_of(head);
+    let n = count::sides_of(head);
+    let method = head[3] as usize;
+    let rounds = head[4] as usize;
+    let mut masks = [0u16; 216];
+    let mut table = [0u32; 1512];
+    let mut positions = [0.0; 6804];
+    let mut book = [0u32; 9072];
+    let mut tris = [0u32; 7776];
+    let mut edges = [0u32; 23328];
+    let a = build::build(
+        n,
+        method,
+        rounds,
+        frame,
+        samples,
+        &mut masks,
+        &mut table,
+        &mut positions,
+        &mut book,
+        &mut tris,
+        &mut edges,
+    );
+    if a.status != 0 {
+        return;
+    }
+    let e = 7 * least(samples.len(), 216);
+    show_sites(n, samples, &masks, method == 1);
+    show_lists(a, &table[..e], &positions, &book, &tris);
+}
+
+fn main() {
+    let mut input = [0u8; 8192];
+    let n = io::read_full(STDIN_FILENO, &mut input);
+    let mut out = [0u8; 402];
+    let k = count::count_text(&input[..n], &mut out);
+    io::write_all(STDOUT_FILENO, &out[..k]);
+    let p = text::read_file(&input[..n]);
+    if p.good {
+        let head = p.head;
+        let bits = p.samples;
+        let m = least(p.sites, 216);
+        let samples = count::floats_of(bits);
+        dump(head, &samples[..m]);
+    }
+}
