@@ -12,6 +12,7 @@ use Rattle.lattice.specs.Sites.{sites}
 use Rattle.points.specs.declared.Frame.{Frame}
 use Rattle.tets.specs.March.{none}
 use Rattle.stages.specs.Vertices.{candidates, siteVertices}
+use Rattle.vertices.proofs.Appending.{appended-unique}
 use Rattle.stages.specs.Samples.{boxOf}
 use Rattle.passes.specs.declared.Walk.{Walk}
 use Rattle.passes.specs.Passing.{Ahead, Drawn, Passed, caseCount, casesTo, start}
@@ -57,3 +58,16 @@ module _ (f : Frame) (n : Sides) (S : List Float) (h : Float) (cluster : Bool) (
           passed = passing-done f n S q (siteVertices (boxOf n S h cluster)) start (replicate (7 * sites n) none) p₀ b₀ (sites n) k (c .pass) t p b (w .passing) l;
           cases = w .cases ∙ ap (casesTo n S h cluster) e;
         }
+
+-- ---- the pass is determined
+
+module _ (f : Frame) (n : Sides) (S : List Float) (h : Float) (cluster : Bool) (q : ℕ → Bool) (p : List Float) (b : List ℕ) where
+  -- ANY TWO CONFORMING PASSES ARE EQUAL
+  pub drawn-unique : {c d : Walk} {t t′ : List ℕ} {p′ p″ : List Float} {b′ b″ : List ℕ} → Drawn f n S h cluster q p b c t p′ b′ → Drawn f n S h cluster q p b d t′ p″ b″
+      → (c ≡ d) × (t ≡ t′) × (p′ ≡ p″) × (b′ ≡ b″)
+  drawn-unique {c} {d} x y =
+      let u = appended-unique f n S (x .passed .vertices) (y .passed .vertices) in
+      let v : c .pass .tried ≡ d .pass .tried = x .passed .tried ∙ sym (y .passed .tried) in
+      let w : c .pass .split ≡ d .pass .split = x .passed .split ∙ sym (y .passed .split) in
+      let e : c .cases ≡ d .cases = x .cases ∙ sym (y .cases) in
+      (λ i. record { pass = record { next = u .0 i; tried = v i; split = w i }; cases = e i }, u .1, u .2, u .3)

@@ -88,6 +88,11 @@ module _ (f : Frame) (n : Sides) (S : List Float) where
   appended-lengths {ws} {i} {j} {t} {t′} {p} {p′} {k} {k′} a =
       (ap length (a .positions) ∙ length-sets p (3 * i) (positionsOf (positionAt f n S) ws), ap length (a .book) ∙ length-sets k (4 * i) (bookOf ws))
 
+  -- WHAT IS APPENDED DETERMINES THE NEXT NUMBER AND EVERY ENTRY OF THE LISTS
+  pub appended-unique : {ws : List Vertex} {i j j₂ : ℕ} {t t′ t₂ : List ℕ} {p p′ p₂ : List Float} {k k′ k₂ : List ℕ}
+      → Appended f n S ws i t p k j t′ p′ k′ → Appended f n S ws i t p k j₂ t₂ p₂ k₂ → (j ≡ j₂) × (t′ ≡ t₂) × (p′ ≡ p₂) × (k′ ≡ k₂)
+  appended-unique a c = (a .next ∙ sym (c .next), a .table ∙ sym (c .table), a .positions ∙ sym (c .positions), a .book ∙ sym (c .book))
+
   -- ---- turn by turn
   module _ (g : ℕ → List Vertex) where
     pub appended-turn : (m : ℕ) {i j l : ℕ} {t t′ t″ : List ℕ} {p p′ p″ : List Float} {k k′ k″ : List ℕ}
