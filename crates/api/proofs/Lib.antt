@@ -1,0 +1,2 @@
+-- What the promises of the library determine.
+pub mod Unique

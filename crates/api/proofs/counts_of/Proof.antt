@@ -1,0 +1,12 @@
+-- `api::counts_of` meets its contract. Assumes nothing.
+use mathlib.Core.Path.{refl}
+use Rattle.api.specs.Calls.{countsOf}
+use Rattle.api.proofs.counts_of.Statement.{statement}
+use Rattle.api.proofs.counts_of.Tie as tie
+
+returns : tie.Need-returns
+unfolding countsOf
+returns c = refl
+
+pub counts-of-spec : {M : Type 1} → statement M
+counts-of-spec = tie.close (tie.spec returns)

@@ -1,0 +1,2 @@
+-- What the lists that C or Rust lends say as values.
+pub mod Calls

@@ -1,0 +1,151 @@
+// What C and Rust link: the build, and two leaves for whoever measures. No function here asks anything of its caller but that each
+// list is as long as it says, that the lists do not overlap, and that the fixed ones have their six, ten or fourteen entries.
+use build::Answer;
+use lattice::Sides;
+use points::Frame;
+use points::Point;
+use sides::Sample;
+ghost use mathlib.Core.Path.{_≡_};
+ghost use lib.Dec.{eqb};
+ghost use Prim.Native.Nat.{_<_};
+ghost use Rattle.sides.specs.Sides.{base, whenFinite};
+ghost use Rattle.marks.specs.Marks.{sample};
+ghost use Rattle.topology.specs.Topology.{topologyOf, caseNumber};
+ghost use Rattle.pairs.specs.Order.{Sorts};
+ghost use Rattle.build.specs.Answer.{answerOf, masksAfter, tableAfter, positionsAfter, bookAfter, trianglesAfter, edgesAfter};
+ghost use Rattle.api.specs.Calls.{asked, frameAt, countsOf, endsAt};
+
+// Origin and step, three numbers each.
+fn frame_at(f: &[f64; 6]) -> Frame
+    ensures { λ r. ⌜ r ≡ frameAt (now (f .entry)) ⌝ }
+{
+    let origin = Point {
+        x: f[0],
+        y: f[1],
+        z: f[2],
+    };
+    let step = Point {
+        x: f[3],
+        y: f[4],
+        z: f[5],
+    };
+    points::frame_of(origin, step)
+}
+
+// The ten counts, in the order in which document 01 prints them.
+fn counts_of(a: Answer) -> [usize; 10]
+    ensures { λ r. ⌜ r ≡ countsOf a ⌝ }
+{
+    [
+        a.crossed,
+        a.vertices,
+        a.triangles,
+        a.closed,
+        a.multihole,
+        a.flathole,
+        a.multisurface,
+        a.simple,
+        a.split,
+        a.rounds,
+    ]
+}
+
+// The build. The answer is document 01's number: 0 done, else a refusal, which leaves the six lists as they were and gives ten zeros.
+#[no_mangle]
+pub extern "C" fn spoonthicket_build(
+    nu: usize,
+    nv: usize,
+    nw: usize,
+    method: usize,
+    rounds: usize,
+    frame: &[f64; 6],
+    samples: &[f64],
+    masks: &mut [u16],
+    table: &mut [u32],
+    vertices: &mut [f64],
+    book: &mut [u32],
+    triangles: &mut [u32],
+    edges: &mut [u32],
+    counts: &mut [usize; 10],
+) -> usize
+    ensures { λ r. ⌜ r ≡ answerOf (asked nu nv nw method rounds (now (frame .entry)) (now (samples .entry)) (now (masks .entry)) (now (table .entry)) (now (vertices .entry)) (now (book .entry)) (now (triangles .entry)) (now (edges .entry))) .status ⌝ }
+    ensures { λ _. ⌜ now (counts .exit) ≡ countsOf (answerOf (asked nu nv nw method rounds (now (frame .entry)) (now (samples .entry)) (now (masks .entry)) (now (table .entry)) (now (vertices .entry)) (now (book .entry)) (now (triangles .entry)) (now (edges .entry)))) ⌝ }
+    ensures { λ _. ⌜ now (masks .exit) ≡ masksAfter (asked nu nv nw method rounds (now (frame .entry)) (now (samples .entry)) (now (masks .entry)) (now (table .entry)) (now (vertices .entry)) (now (book .entry)) (now (triangles .entry)) (now (edges .entry))) (now (masks .entry)) ⌝ }
+    ensures { λ _. ⌜ now (table .exit) ≡ tableAfter (asked nu nv nw method rounds (now (frame .entry)) (now (samples .entry)) (now (masks .entry)) (now (table .entry)) (now (vertices .entry)) (now (book .entry)) (now (triangles .entry)) (now (edges .entry))) (now (table .entry)) ⌝ }
+    ensures { λ _. ⌜ now (vertices .exit) ≡ positionsAfter (asked nu nv nw method rounds (now (frame .entry)) (now (samples .entry)) (now (masks .entry)) (now (table .entry)) (now (vertices .entry)) (now (book .entry)) (now (triangles .entry)) (now (edges .entry))) (now (vertices .entry)) ⌝ }
+    ensures { λ _. ⌜ now (book .exit) ≡ bookAfter (asked nu nv nw method rounds (now (frame .entry)) (now (samples .entry)) (now (masks .entry)) (now (table .entry)) (now (vertices .entry)) (now (book .entry)) (now (triangles .entry)) (now (edges .entry))) (now (book .entry)) ⌝ }
+    ensures { λ _. ⌜ now (triangles .exit) ≡ trianglesAfter (asked nu nv nw method rounds (now (frame .entry)) (now (samples .entry)) (now (masks .entry)) (now (table .entry)) (now (vertices .entry)) (now (book .entry)) (now (triangles .entry)) (now (edges .entry))) (now (triangles .entry)) ⌝ }
+    ensures { λ _. ⌜ now (edges .exit) ≡ edgesAfter (asked nu nv nw method rounds (now (frame .entry)) (now (samples .entry)) (now (masks .entry)) (now (table .entry)) (now (vertices .entry)) (now (book .entry)) (now (triangles .entry)) (now (edges .entry))) (now (edges .entry)) ⌝ }
+{
+    let at = frame_at(frame);
+    let answer = build::build(
+        Sides { nu, nv, nw },
+        method,
+        rounds,
+        at,
+        samples,
+        masks,
+        table,
+        vertices,
+        book,
+        triangles,
+        edges,
+    );
+    *counts = counts_of(answer);
+    answer.status
+}
+
+// A value that is not finite counts as missing.
+fn end_at(ends: &[f64; 14], e: usize) -> Sample
+    requires { ⌜ e < 14 ⌝ }
+    ensures { λ r. ⌜ r ≡ whenFinite (sample (now (ends .entry)) e) ⌝ }
+{
+    sides::finite_sample(ends[e])
+}
+
+fn ends_at(ends: &[f64; 14]) -> [Sample; 14]
+    ensures { λ r. ⌜ r ≡ endsAt (now (ends .entry)) ⌝ }
+{
+    let a = end_at(ends, 0);
+    let b = end_at(ends, 1);
+    let c = end_at(ends, 2);
+    let d = end_at(ends, 3);
+    let e = end_at(ends, 4);
+    let f = end_at(ends, 5);
+    let g = end_at(ends, 6);
+    let h = end_at(ends, 7);
+    let i = end_at(ends, 8);
+    let j = end_at(ends, 9);
+    let k = end_at(ends, 10);
+    let l = end_at(ends, 11);
+    let m = end_at(ends, 12);
+    let o = end_at(ends, 13);
+    [a, b, c, d, e, f, g, h, i, j, k, l, m, o]
+}
+
+// The topology test of one mask: the case's number, and the clusters' masks, zeros behind them.
+#[no_mangle]
+pub extern "C" fn spoonthicket_topology(
+    mask: u16,
+    method: usize,
+    ends: &[f64; 14],
+    clusters: &mut [u16; 14],
+) -> usize
+    ensures { λ r. ⌜ r ≡ caseNumber (topologyOf «mask» (eqb method 1) (endsAt (now (ends .entry))) base .case) ⌝ }
+    ensures { λ _. ⌜ now (clusters .exit) ≡ topologyOf «mask» (eqb method 1) (endsAt (now (ends .entry))) base .clusters .masks ⌝ }
+{
+    let known = ends_at(ends);
+    let found = topology::test_topology(mask, method == 1, known, build::THRESHOLD);
+    let masks = found.clusters.masks;
+    *clusters = masks;
+    let case = found.case;
+    topology::case_number(case)
+}
+
+// Sorts records of three words by all three; words past the last whole record stay.
+#[no_mangle]
+pub extern "C" fn spoonthicket_sort(words: &mut [u32])
+    ensures { λ _. ⌜ Sorts (now (words .entry)) (now (words .exit)) ⌝ }
+{
+    pairs::sort(words);
+}
