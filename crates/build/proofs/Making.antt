@@ -10,7 +10,7 @@ use lib.Ieee.{Float}
 use Rattle.laws.specs.Bools.{bit}
 use Rattle.laws.specs.Ranges.{any, each}
 use Rattle.laws.specs.Lists.{All, count, keep, total}
-use Rattle.laws.proofs.Bools.{bit-le}
+use Rattle.laws.proofs.Bools.{bit-le, bit-one}
 use Rattle.laws.proofs.Lists.{all-keep, all-map, all-under}
 use Rattle.laws.proofs.Ranges.{any-one, each-all}
 use Rattle.laws.proofs.Sums.{sum-le}
@@ -47,7 +47,6 @@ use Rattle.build.specs.declared.Made.{Made}
 use Rattle.build.specs.Standing.{Finished, Lent, Paired, Parting, Placed, Settled, Standing, Stood}
 use Rattle.build.proofs.Standing.{front-take, mesh-room, stage-space, stands-again, stands-over, stands-same}
 use Rattle.build.proofs.Passes.{place-longer}
-use Rattle.build.proofs.Rounds.{bit-one}
 
 -- ---- no stage has fewer
 

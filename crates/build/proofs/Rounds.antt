@@ -8,9 +8,9 @@ use lib.Dec.{eqb}
 use lib.ListN.{length, getD, take, drop, length-drop}
 use lib.Seq.{sets}
 use lib.Ieee.{Float}
-use Rattle.laws.specs.Bools.{bit}
 use Rattle.laws.specs.Ranges.{any}
 use Rattle.laws.specs.Written.{Written}
+use Rattle.laws.proofs.Bools.{bit-one}
 use Rattle.laws.proofs.Ranges.{any-one}
 use Rattle.laws.proofs.Tails.{tail-is, tail-at}
 use Rattle.tables.specs.Cases.{flat}
@@ -33,11 +33,6 @@ use Rattle.rollback.specs.Rolling.{Ready, Rolled, Rolling}
 use Rattle.build.specs.declared.Stand.{Stand}
 use Rattle.build.specs.Standing.{Lent, Stood, Turned}
 use Rattle.build.proofs.Standing.{front-take, mesh-room, stage-space, stands}
-
-pub bit-one : (b : Bool) → eqb (bit b) 1 ≡ b
-unfolding bit
-bit-one true = refl
-bit-one false = refl
 
 module _ (f : Frame) (n : Sides) (S : List Float) (h : Float) (at : Stand) (m t : List ℕ) (p : List Float) (k tr room : List ℕ) (L : Lent n S h m t p k tr room)
     (x : Stood f n S h at t p k tr) (c : ℕ) (ec : c ≡ cells n) where

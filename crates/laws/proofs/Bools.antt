@@ -5,7 +5,7 @@ use mathlib.Core.List.{List, [], _∷_}
 use mathlib.Core.Logic.{_⊎_, inl, inr}
 use Prim.Native.Nat.{ℕ, zero, suc, _≤_, _+_, _*_}
 use native.Mathlib.Omega.{arith}
-use lib.Dec.{T}
+use lib.Dec.{T, eqb}
 use lib.ListN.{length}
 use Rattle.laws.specs.Bools.{bit, allBools}
 
@@ -72,6 +72,11 @@ pub bit-T : (b : Bool) → bit b ≡ 1 → T b
 unfolding bit
 bit-T true e = tt
 bit-T false e = omega arith
+
+pub bit-one : (b : Bool) → eqb (bit b) 1 ≡ b
+unfolding bit
+bit-one true = refl
+bit-one false = refl
 
 pub T-bit : (b : Bool) → T b → bit b ≡ 1
 unfolding bit

@@ -1,6 +1,6 @@
 -- Candidates met one after the other, and what a flag does to one of them. Assumes nothing.
 use mathlib.Core.Path.{_≡_, refl, sym, ap, _∙_}
-use mathlib.Core.Bool.{Bool, true, false, _&&_, cond}
+use mathlib.Core.Bool.{Bool, true, false, _&&_, cond, and-false}
 use mathlib.Core.List.{List, [], _∷_, _++_, append-assoc}
 use Prim.Native.Nat.{ℕ, suc, _+_, _-_, _≤_, _<_}
 use native.Mathlib.Omega.{arith}
@@ -76,15 +76,11 @@ split-same q r i (x ∷ vs) h =
     λ j. cond (several x && a j) 1 0 + b j
 
 -- without a flag nothing is split
-and-none : (a : Bool) → a && false ≡ false
-and-none true = refl
-and-none false = refl
-
 pub place-never : (q : ℕ → Bool) (i : ℕ) (vs : List Vertex) → ((v : ℕ) → q v ≡ false) → placeBy q i vs ≡ vs
 unfolding placeBy
 place-never q i [] h = refl
 place-never q i (x ∷ vs) h =
-    let a : several x && q i ≡ false = ap (λ (c : Bool). several x && c) (h i) ∙ and-none (several x) in
+    let a : several x && q i ≡ false = ap (λ (c : Bool). several x && c) (h i) ∙ and-false (several x) in
     λ j. cond (a j) (apart 0 x) (x ∷ []) ++ place-never q (suc i) vs h j
 
 -- ---- the test of one candidate
@@ -95,7 +91,7 @@ flag-read l i held h = sym (ap (λ (c : Bool). c && eqb (getD l i 0) 1) (lt-ltb 
 
 pub flag-past : (l : List ℕ) (i held : ℕ) → length l ≤ i → false ≡ (ltb 1 held && flagOf l i)
 unfolding flagOf
-flag-past l i held h = sym (ap (λ (x : ℕ). ltb 1 held && eqb x 1) (List·getD-eq-default l 0 h) ∙ and-none (ltb 1 held))
+flag-past l i held h = sym (ap (λ (x : ℕ). ltb 1 held && eqb x 1) (List·getD-eq-default l 0 h) ∙ and-false (ltb 1 held))
 
 pub flag-few : (l : List ℕ) (i held : ℕ) → held ≤ 1 → false ≡ (ltb 1 held && flagOf l i)
 flag-few l i held h = sym (ap (λ (c : Bool). c && flagOf l i) (le-ltb 1 held h))

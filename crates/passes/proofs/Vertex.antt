@@ -23,6 +23,7 @@ use Rattle.stages.specs.Vertices.{Vertex, apart, filled, fresh, held, several}
 use Rattle.stages.specs.Meshes.{bookOf, positionsOf}
 use Rattle.stages.specs.Samples.{edgesOf, pointsOf, positionAt}
 use Rattle.stages.specs.Steps.{number, paint}
+use Rattle.stages.proofs.Table.{paint-length}
 use Rattle.vertices.specs.Drawing.{joinTo, claimTo}
 use Rattle.vertices.specs.Appending.{Appended, Space, paintFrom, pointedOf, singlesOf}
 use Rattle.vertices.proofs.Clusters.{cluster-points, cluster-painted}
@@ -33,11 +34,6 @@ use Rattle.passes.specs.Passing.{Ahead, Passed, candidateOf, placeBy, sp
 use Rattle.passes.proofs.Passing.{passed-none, passed-same}
 
 -- ---- numbers written over other numbers
-
-paint-long : (j : ℕ) (ks t : List ℕ) → length (paint j ks t) ≡ length t
-unfolding paint
-paint-long j [] t = refl
-paint-long j (k ∷ ks) t = paint-long j ks (set t k j) ∙ length-set t k j
 
 paint-other : (j : ℕ) (ks t : List ℕ) (x : ℕ) → count (eqb x) ks ≡ 0 → getD (paint j ks t) x none ≡ getD t x none
 unfolding paint count bit
@@ -65,7 +61,7 @@ number-agree i (k ∷ ks) t t′ l h =
         getD-set-other t k x i none (eqb-false x k e) ∙ h x b (ap (λ (c : Bool). bit c + count (eqb x) ks) e ∙ omega arith) ∙ sym (getD-set-other t′ k x i none (eqb-false x k e))
 
 number-over : (i j : ℕ) (ks t : List ℕ) → number i ks (paint j ks t) ≡ number i ks t
-number-over i j ks t = number-agree i ks (paint j ks t) t (paint-long j ks t) (λ x b z. paint-other j ks t x z)
+number-over i j ks t = number-agree i ks (paint j ks t) t (paint-length j ks t) (λ x b z. paint-other j ks t x z)
 
 -- ---- the candidate of a cluster
 

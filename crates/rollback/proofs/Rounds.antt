@@ -27,7 +27,7 @@ use Rattle.stages.specs.Clustered.{Proper}
 use Rattle.stages.proofs.Lookup.{times}
 use Rattle.stages.proofs.Longer.{stage-once}
 use Rattle.stages.proofs.Table.{table-length}
-use Rattle.stages.proofs.Turns.{rollback-turns, soFar, to-longer, to-times, turns}
+use Rattle.stages.proofs.Turns.{rollback-turns, soFar, to-longer, to-times, turn-longer, turns}
 use Rattle.stages.proofs.Readback.{stage-proper}
 use Rattle.stages.proofs.SampleClusters.{markAt}
 use Rattle.stages.proofs.SampleMarks.{sample-clustered}
@@ -57,15 +57,6 @@ module _ (r : ℕ) (os : List ℕ) where
   unfolding rollTo fold
   to-more i vs = refl
 
-  turn-longer : (i : ℕ) (ws : List Vertex) → length ws ≤ length (rollTurn r os i ws)
-  turn-longer i ws = go (rolled os (getD ws i nobody)) refl
-    where
-      go : (c : Bool) → rolled os (getD ws i nobody) ≡ c → length ws ≤ length (rollTurn r os i ws)
-      go true q =
-          let x = getD ws i nobody in
-          omega (arith, ap length (turn-rolled i ws q), length-append (set ws i (retired x)) (apart r x), length-set ws i (retired x))
-      go false q = omega (arith, ap length (turn-kept i ws q))
-
   -- more turns, no fewer vertices
   later-longer : (d i : ℕ) (vs : List Vertex) → length (rollTo r os i vs) ≤ length (rollTo r os (d + i) vs)
   later-longer zero i vs = let e : 0 + i ≡ i = omega arith in omega (arith, ap (λ (m : ℕ). length (rollTo r os m vs)) e)
@@ -74,7 +65,7 @@ module _ (r : ℕ) (os : List ℕ) where
       omega (
         arith,
         later-longer d i vs,
-        turn-longer (d + i) (rollTo r os (d + i) vs),
+        turn-longer r os (d + i) (rollTo r os (d + i) vs),
         ap length (to-more (d + i) vs),
         ap (λ (m : ℕ). length (rollTo r os m vs)) e,
       )

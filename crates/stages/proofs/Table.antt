@@ -82,7 +82,7 @@ module _ (b : Box) where
       go true e = find-append 0 ws (x ∷ []) k (omega (arith, holds-pos b k x e)) ∙ rw e (omega arith)
       go false e = find-same 0 ws (x ∷ []) k (omega (arith, holds-not b k x e))
 
-paint-length : (n : ℕ) (ks t : List ℕ) → length (paint n ks t) ≡ length t
+pub paint-length : (n : ℕ) (ks t : List ℕ) → length (paint n ks t) ≡ length t
 unfolding paint
 paint-length n [] t = refl
 paint-length n (k ∷ ks) t = paint-length n ks (set t k n) ∙ length-set t k n

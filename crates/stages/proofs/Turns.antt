@@ -92,6 +92,15 @@ rollback-turns b r {vs} st =
 
 -- ---- the table and the book along the turns
 
+-- a turn makes no fewer vertices
+pub turn-longer : (r : ℕ) (os : List ℕ) (i : ℕ) (ws : List Vertex) → length ws ≤ length (rollTurn r os i ws)
+unfolding rollTurn
+turn-longer r os i ws = go (rolled os (getD ws i nobody))
+  where
+    go : (c : Bool) → length ws ≤ length (cond c (set ws i (retired (getD ws i nobody)) ++ apart r (getD ws i nobody)) ws)
+    go true = omega (arith, length-append (set ws i (retired (getD ws i nobody))) (apart r (getD ws i nobody)), length-set ws i (retired (getD ws i nobody)))
+    go false = omega arith
+
 module _ (b : Box) (r : ℕ) (os : List ℕ) where
   turn-times : (k i : ℕ) (ws : List Vertex) → i < length ws → times b k (rollTurn r os i ws) ≡ times b k ws
   unfolding rollTurn
@@ -107,18 +116,10 @@ module _ (b : Box) (r : ℕ) (os : List ℕ) where
           )
       go false = refl
 
-  turn-longer : (i : ℕ) (ws : List Vertex) → length ws ≤ length (rollTurn r os i ws)
-  unfolding rollTurn
-  turn-longer i ws = go (rolled os (getD ws i nobody))
-    where
-      go : (c : Bool) → length ws ≤ length (cond c (set ws i (retired (getD ws i nobody)) ++ apart r (getD ws i nobody)) ws)
-      go true = omega (arith, length-append (set ws i (retired (getD ws i nobody))) (apart r (getD ws i nobody)), length-set ws i (retired (getD ws i nobody)))
-      go false = omega arith
-
   pub to-longer : (m : ℕ) (ws : List Vertex) → length ws ≤ length (rollTo r os m ws)
   unfolding rollTo fold
   to-longer zero ws = omega arith
-  to-longer (suc m) ws = omega (arith, to-longer m ws, turn-longer m (rollTo r os m ws))
+  to-longer (suc m) ws = omega (arith, to-longer m ws, turn-longer r os m (rollTo r os m ws))
 
   pub to-times : (k m : ℕ) (ws : List Vertex) → m ≤ length ws → times b k (rollTo r os m ws) ≡ times b k ws
   unfolding rollTo fold
