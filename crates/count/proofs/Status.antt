@@ -20,9 +20,10 @@ use Rattle.lattice.proofs.Sites.{product-le}
 use Rattle.sides.specs.Sides.{base}
 use Rattle.marks.specs.Marks.{isCrossed, crossedCount}
 use Rattle.points.specs.Limits.{frameOk}
+use Rattle.refusals.specs.declared.Lengths.{Lengths}
 use Rattle.refusals.specs.Refusals.{settingsOk, siteRoom, vertexRoom, cellRoom, most, statusOf}
 use Rattle.build.specs.declared.Answer.{Answer}
-use Rattle.build.specs.Answer.{Order, status, doneAnswer, refusedAnswer, answerOf}
+use Rattle.build.specs.Answer.{Order, order, status, orderBox, orderVertices, orderCases, doneAnswer, refusedAnswer, answerOf}
 use Rattle.text.specs.CountFile.{CountFile, sites, sample}
 use Rattle.text.specs.Answer.{answerText, refusalText}
 use Rattle.text.proofs.Lines.{fine-length}
@@ -51,6 +52,25 @@ cells-room n l =
 
 -- ---- the number
 
+-- lists that are long enough for every file, such as the program's own
+pub record Ample (L : Lengths) : Type 0 where
+  pub masks : 216 ≤ L .masks
+  pub table : 1512 ≤ L .table
+  pub vertices : 6804 ≤ L .vertices
+  pub book : 9072 ≤ L .book
+  pub triangles : 7776 ≤ L .triangles
+  pub edges : 23328 ≤ L .edges
+
+abbrev space : Lengths
+space = record { masks = 216; table = 1512; vertices = 6804; book = 9072; triangles = 7776; edges = 23328 }
+
+enough : Ample space
+enough = record { masks = omega arith; table = omega arith; vertices = omega arith; book = omega arith; triangles = omega arith; edges = omega arith }
+
+-- the order of a file in lists of such lengths
+abbrev pub inSpace : List ℕ → List Float → Lengths → Order
+inSpace vs S L = order (headSides vs) (getD vs 3 0) (getD vs 4 0) (headFrame vs) S (L .masks) (L .table) (L .vertices) (L .book) (L .triangles) (L .edges)
+
 module _ {s vs ss : List ℕ} (f : CountFile s vs ss) where
   size : length ss ≡ sites vs
   size = fine-length (f .body) ∙ length-replicate (sites vs) sample
@@ -64,24 +84,34 @@ module _ {s vs ss : List ℕ} (f : CountFile s vs ss) where
   unfolding headSides box.sites
   few = f .size .most
 
-  -- Status 3 and 5 to 7 never come.
-  pub file-status : status (workOrder vs (floatsOf ss))
+  -- the number in lists of any lengths that are long enough: 3 and 5 to 7 never come
+  space-status : (L : Lengths) → Ample L → status (inSpace vs (floatsOf ss) L)
       ≡ cond (not (settingsOk (getD vs 3 0) (getD vs 4 0))) 1 (cond (not (box.sidesOk (headSides vs))) 2 (cond (not (frameOk (headFrame vs))) 4 0))
   unfolding statusOf siteRoom vertexRoom cellRoom
-  file-status =
+  space-status L a =
       let n = headSides vs in
       let S = floatsOf ss in
       let c = cells-room n few in
       let x = most-room n S base few in
       rw (
         eq-eqb (length S) (box.sites n) file-sites,
-        le-leb (box.sites n) 216 few,
-        le-leb (7 * box.sites n) 1512 (omega (arith, few)),
-        le-leb (3 * most n S base) 6804 (omega arith),
-        le-leb (4 * most n S base) 9072 (omega arith),
-        le-leb (36 * box.cells n) 7776 (omega arith),
-        le-leb (108 * box.cells n) 23328 (omega arith),
+        le-leb (box.sites n) (L .masks) (omega (arith, few)),
+        le-leb (7 * box.sites n) (L .table) (omega (arith, few)),
+        le-leb (3 * most n S base) (L .vertices) (omega arith),
+        le-leb (4 * most n S base) (L .book) (omega arith),
+        le-leb (36 * box.cells n) (L .triangles) (omega arith),
+        le-leb (108 * box.cells n) (L .edges) (omega arith),
       )
+
+  pub file-status : status (workOrder vs (floatsOf ss))
+      ≡ cond (not (settingsOk (getD vs 3 0) (getD vs 4 0))) 1 (cond (not (box.sidesOk (headSides vs))) 2 (cond (not (frameOk (headFrame vs))) 4 0))
+  file-status = space-status space enough
+
+  -- what the build answers does not depend on the work space
+  pub space-answer : (L : Lengths) → Ample L → answerOf (inSpace vs (floatsOf ss) L) ≡ answerOf (workOrder vs (floatsOf ss))
+  unfolding answerOf doneAnswer orderBox orderVertices orderCases
+  space-answer L a =
+      ap (λ (k : ℕ). cond (eqb k 0) (doneAnswer (workOrder vs (floatsOf ss))) (refusedAnswer k)) (space-status L a ∙ sym file-status)
 
 -- ---- what is printed
 
