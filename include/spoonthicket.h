@@ -1,0 +1,89 @@
+/* spoonthicket.h: the linkable functions of Spoonthicket, for C and C++ on x86-64 Linux (archive libspoonthicket.a, made by tools/library).
+ *
+ * Of every call: a pointer is not null and is aligned for its type, also where its length is 0; the list behind it has the length that
+ * is given, in entries and not bytes, or the fixed length in brackets; a list that is written overlaps no other. Nothing checks that.
+ * Every number, every length and every bit pattern of a float is taken. The functions keep no state, take no memory, call nothing but
+ * memcpy and memset, and may run on several threads at once. The processor's rounding is to nearest, subnormals are not flushed, and
+ * floating-point exceptions are masked, as every C program starts.
+ */
+#ifndef SPOONTHICKET_H
+#define SPOONTHICKET_H
+
+#include <stddef.h>
+#include <stdint.h>
+
+#ifdef __cplusplus
+extern "C" {
+#endif
+
+/* What spoonthicket_build answers. The lowest number that applies is given. */
+enum {
+    SPOONTHICKET_DONE = 0,
+    SPOONTHICKET_SETTINGS = 1, /* method not 0 or 1, or rounds over 4 */
+    SPOONTHICKET_SIDES = 2,    /* a side not 1 to 32 */
+    SPOONTHICKET_SAMPLES = 3,  /* samples not nu * nv * nw long */
+    SPOONTHICKET_FRAME = 4,    /* an origin not within -1e9 to 1e9, a step not within 0.001 to 1e6, or a NaN */
+    SPOONTHICKET_SITES = 5,    /* masks shorter than the sites, or table shorter than 7 a site */
+    SPOONTHICKET_VERTICES = 6, /* vertices shorter than 3 X, or book shorter than 4 X */
+    SPOONTHICKET_CELLS = 7     /* triangles shorter than 36 a cell, or edges shorter than 108 a cell */
+};
+
+/* The places of the ten counts. */
+enum {
+    SPOONTHICKET_CROSSED,      /* E: owned edges with both ends in the box, on different sides */
+    SPOONTHICKET_MADE,         /* vertices ever made, at most X = 3 E / 2 rounded down */
+    SPOONTHICKET_TRIANGLES,    /* at most twelve a cell */
+    SPOONTHICKET_CLOSED,       /* the five cases, over sites with a mask that is not 0; all 0 for method 0 */
+    SPOONTHICKET_MULTIHOLE,
+    SPOONTHICKET_FLATHOLE,
+    SPOONTHICKET_MULTISURFACE,
+    SPOONTHICKET_SIMPLE,
+    SPOONTHICKET_SPLIT,        /* clusters split */
+    SPOONTHICKET_ROUNDS,       /* rollback rounds done */
+    SPOONTHICKET_COUNTS        /* how many counts there are */
+};
+
+/* An entry of the edge table without a vertex. */
+#define SPOONTHICKET_NONE UINT32_C(0xFFFFFFFF)
+
+/* The build of one box of nu * nv * nw samples (isovalue taken off, site u + nu * (v + nv * w)).
+ *
+ * method: 0 a vertex for each crossed edge, 1 averages by cluster. rounds: 0 to 4.
+ * frame: origin on three axes, then step on three axes.
+ *
+ * Done (0), the front of each list holds:
+ *   masks      a mask of marked edges for each site
+ *   table      at 7 * site + label the vertex of that owned edge, or SPOONTHICKET_NONE
+ *   vertices   three coordinates for each vertex ever made
+ *   book       four words for each: site, edges held now (0 once retired), edges held when made, round made
+ *   triangles  three vertex numbers for each triangle
+ *   edges      zeros (108 a cell: room to work in)
+ * and what lies behind stays as it was. Refused (1 to 7), no entry of these six lists changes.
+ * counts always gets its ten numbers: zeros on a refusal.
+ */
+size_t spoonthicket_build(
+    size_t nu, size_t nv, size_t nw, size_t method, size_t rounds,
+    const double frame[6],
+    const double *samples, size_t samples_len,
+    uint16_t *masks, size_t masks_len,
+    uint32_t *table, size_t table_len,
+    double *vertices, size_t vertices_len,
+    uint32_t *book, size_t book_len,
+    uint32_t *triangles, size_t triangles_len,
+    uint32_t *edges, size_t edges_len,
+    size_t counts[SPOONTHICKET_COUNTS]);
+
+/* The topology test of one mask of near intersections (bits 14 and 15 are passed over), with the values at the fourteen ends of the
+ * site's edges; a value that is not finite counts as missing. Answers the case: 0 closed, 1 multihole, 2 flathole, 3 multisurface,
+ * 4 simple, 5 not clustered (method other than 1). clusters gets a mask for each cluster, in order, and zeros behind them.
+ */
+size_t spoonthicket_topology(uint16_t mask, size_t method, const double ends[14], uint16_t clusters[14]);
+
+/* Sorts records of three words, ascending by all three. Words past the last whole record stay. */
+void spoonthicket_sort(uint32_t *words, size_t words_len);
+
+#ifdef __cplusplus
+}
+#endif
+
+#endif

@@ -1,0 +1,330 @@
+//! Tests that link the archive: document 01's examples, every refusal with every buffer untouched, buffers exactly full and one short.
+
+use spoonthicket::{build, build_in, sort, topology, Buffers, Counts, Refusal, Request, NONE};
+
+const ORIGIN: [f64; 3] = [0.0; 3];
+const STEP: [f64; 3] = [1.0; 3];
+
+fn asked(sides: [usize; 3], samples: &[f64]) -> Request<'_> {
+    Request { sides, method: 1, rounds: 4, origin: ORIGIN, step: STEP, samples }
+}
+
+/// 27 samples, one value around the centre and one in it.
+fn ball(around: f64, centre: f64) -> Vec<f64> {
+    let mut s = vec![around; 27];
+    s[13] = centre;
+    s
+}
+
+/// Buffers of these lengths whose every entry is a number that no build writes there by chance.
+fn stained(masks: usize, table: usize, vertices: usize, book: usize, triangles: usize, edges: usize) -> Buffers {
+    let words = |n: usize, k: usize| (0..n).map(|i| 0xA5A5_0000u32 ^ (i * k) as u32).collect::<Vec<u32>>();
+    Buffers {
+        masks: (0..masks).map(|i| 0xC3C3 ^ i as u16).collect(),
+        table: words(table, 3),
+        vertices: (0..vertices).map(|i| -1.0e300 - i as f64).collect(),
+        book: words(book, 5),
+        triangles: words(triangles, 7),
+        edges: words(edges, 11),
+    }
+}
+
+/// A refusal with this number that leaves every entry as it was; floats are compared by their bits.
+fn refuses(number: usize, request: &Request, b: &Buffers) {
+    let mut after = b.clone();
+    assert_eq!(build_in(request, &mut after), Err(Refusal(number)), "{request:?}");
+    assert!(after.vertices.iter().map(|x| x.to_bits()).eq(b.vertices.iter().map(|x| x.to_bits())));
+    assert!(after == *b, "a refusal stored something");
+}
+
+/// Document 01's crossed edges, counted by hand: seven owned edges a site, along (a, b, c) not all 0.
+fn crossed(sides: [usize; 3], s: &[f64]) -> usize {
+    let [nu, nv, nw] = sides;
+    let mut n = 0;
+    for w in 0..nw {
+        for v in 0..nv {
+            for u in 0..nu {
+                for c in 1..8 {
+                    let (x, y, z) = (u + c % 2, v + c / 2 % 2, w + c / 4);
+                    if x < nu && y < nv && z < nw {
+                        n += usize::from((s[u + nu * (v + nv * w)] < -1.0e-9) != (s[x + nu * (y + nv * z)] < -1.0e-9));
+                    }
+                }
+            }
+        }
+    }
+    n
+}
+
+struct Random(u64);
+
+impl Random {
+    fn next(&mut self) -> u64 {
+        self.0 ^= self.0 << 13;
+        self.0 ^= self.0 >> 7;
+        self.0 ^= self.0 << 17;
+        self.0
+    }
+    fn below(&mut self, n: usize) -> usize {
+        (self.next() >> 20) as usize % n
+    }
+    fn sample(&mut self) -> f64 {
+        match self.below(12) {
+            0 => 0.0,
+            1 => -1.0e-9,
+            2 => f64::from_bits(0xbe112e0be826d696),
+            _ => self.below(2001) as f64 / 500.0 - 2.0,
+        }
+    }
+}
+
+#[test]
+fn example_of_document_01() {
+    let s = ball(1.0, -1.0);
+    let mesh = build(&asked([3, 3, 3], &s)).unwrap();
+    let counts = Counts { crossed: 14, vertices: 8, triangles: 12, simple: 8, ..Counts::default() };
+    assert_eq!(mesh.counts, counts);
+    assert_eq!(mesh.positions.len(), 8);
+    assert_eq!(mesh.triangles.len(), 12);
+}
+
+#[test]
+fn closed_surfaces_of_document_01() {
+    for s in [ball(1.0, -3.0), ball(3.0, -1.0)] {
+        let mesh = build(&asked([3, 3, 3], &s)).unwrap();
+        assert_eq!((mesh.counts.vertices, mesh.counts.triangles), (14, 24));
+    }
+    let s = ball(3.0, -1.0);
+    let mesh = build(&asked([3, 3, 3], &s)).unwrap();
+    assert_eq!(mesh.masks[13], 0x3FFF);
+    assert_eq!(mesh.counts.closed, 1);
+}
+
+#[test]
+fn one_site() {
+    for x in [1.0, -1.0, f64::NAN, f64::INFINITY, f64::NEG_INFINITY] {
+        let mesh = build(&asked([1, 1, 1], &[x])).unwrap();
+        assert_eq!(mesh.counts, Counts::default());
+        assert_eq!(mesh.table, [NONE; 7]);
+    }
+}
+
+/// Method 0: no cases are counted, each crossed edge has a vertex of its own.
+#[test]
+fn without_clusters() {
+    let s = ball(1.0, -1.0);
+    let mesh = build(&Request { method: 0, ..asked([3, 3, 3], &s) }).unwrap();
+    assert_eq!(mesh.counts, Counts { crossed: 14, vertices: 14, triangles: 24, ..Counts::default() });
+}
+
+#[test]
+fn every_refusal_leaves_the_buffers() {
+    let s = ball(1.0, -1.0);
+    let r = asked([3, 3, 3], &s);
+    let b = stained(27, 189, 63, 84, 288, 864);
+    assert!(build_in(&r, &mut b.clone()).is_ok());
+
+    for (method, rounds) in [(2, 4), (usize::MAX, 0), (0, 5), (1, usize::MAX), (7, 7)] {
+        refuses(1, &Request { method, rounds, ..r }, &b);
+    }
+    for sides in [[0, 3, 3], [3, 0, 3], [3, 3, 0], [33, 3, 3], [3, 33, 3], [3, 3, 33], [usize::MAX; 3], [0; 3], [1 << 32, 1 << 32, 1]] {
+        refuses(2, &Request { sides, ..r }, &b);
+    }
+    let longer = vec![1.0; 28];
+    for samples in [&s[..26], &s[..0], &longer[..]] {
+        refuses(3, &Request { samples, ..r }, &b);
+    }
+    for bad in [1.0000000000000001e9f64 + 1.0, -1.0e9 - 1.0, f64::NAN, f64::INFINITY, f64::NEG_INFINITY] {
+        for axis in 0..3 {
+            let mut origin = ORIGIN;
+            origin[axis] = bad;
+            refuses(4, &Request { origin, ..r }, &b);
+        }
+    }
+    for bad in [0.0, -1.0, f64::from_bits(0.001f64.to_bits() - 1), f64::from_bits(1.0e6f64.to_bits() + 1), f64::NAN, f64::INFINITY] {
+        for axis in 0..3 {
+            let mut step = STEP;
+            step[axis] = bad;
+            refuses(4, &Request { step, ..r }, &b);
+        }
+    }
+    for axis in 0..3 {
+        let (mut origin, mut step) = (ORIGIN, STEP);
+        origin[axis] = -1.0e9;
+        step[axis] = 0.001;
+        assert!(build(&Request { origin, step, ..r }).is_ok());
+        origin[axis] = 1.0e9;
+        step[axis] = 1.0e6;
+        assert!(build(&Request { origin, step, ..r }).is_ok());
+    }
+    refuses(5, &r, &stained(26, 189, 63, 84, 288, 864));
+    refuses(5, &r, &stained(27, 188, 63, 84, 288, 864));
+    refuses(6, &r, &stained(27, 189, 62, 84, 288, 864));
+    refuses(6, &r, &stained(27, 189, 63, 83, 288, 864));
+    refuses(7, &r, &stained(27, 189, 63, 84, 287, 864));
+    refuses(7, &r, &stained(27, 189, 63, 84, 288, 863));
+    refuses(5, &r, &Buffers::default());
+}
+
+#[test]
+fn the_lowest_number_wins() {
+    let s = ball(1.0, -1.0);
+    let none = Buffers::default();
+    let all = Request { sides: [33, 3, 3], method: 2, rounds: 9, origin: [f64::NAN; 3], step: [0.0; 3], samples: &s[..3] };
+    refuses(1, &all, &none);
+    let all = Request { method: 1, rounds: 4, ..all };
+    refuses(2, &all, &none);
+    let all = Request { sides: [3, 3, 3], ..all };
+    refuses(3, &all, &none);
+    let all = Request { samples: &s, ..all };
+    refuses(4, &all, &none);
+    let all = Request { origin: ORIGIN, step: STEP, ..all };
+    refuses(5, &all, &none);
+    refuses(6, &all, &stained(27, 189, 0, 0, 0, 0));
+    refuses(7, &all, &stained(27, 189, 63, 84, 0, 0));
+}
+
+/// Random boxes: buffers exactly full are enough, one entry short of any is refused, longer ones keep what lies behind the used part.
+#[test]
+fn exactly_full_and_one_short() {
+    let mut r = Random(20260713);
+    for _ in 0..300 {
+        let sides = [1 + r.below(5), 1 + r.below(5), 1 + r.below(5)];
+        let s: Vec<f64> = (0..sides.iter().product()).map(|_| r.sample()).collect();
+        let request = Request { method: r.below(2), rounds: r.below(5), ..asked(sides, &s) };
+        let e = crossed(sides, &s);
+        let x = 3 * e / 2;
+        let sites = s.len();
+        let cells: usize = sides.iter().map(|n| n - 1).product();
+        let need = [sites, 7 * sites, 3 * x, 4 * x, 36 * cells, 108 * cells];
+        let lent = |n: [usize; 6]| stained(n[0], n[1], n[2], n[3], n[4], n[5]);
+
+        let mut full = lent(need);
+        let counts = build_in(&request, &mut full).unwrap();
+        assert_eq!(counts.crossed, e);
+        assert!(counts.vertices <= x && counts.triangles <= 12 * cells);
+        assert!(full.edges.iter().all(|&word| word == 0));
+
+        for (list, number) in [(0, 5), (1, 5), (2, 6), (3, 6), (4, 7), (5, 7)] {
+            if need[list] > 0 {
+                let mut short = need;
+                short[list] -= 1;
+                refuses(number, &request, &lent(short));
+            }
+        }
+
+        let more = need.map(|n| n + 13);
+        let before = lent(more);
+        let mut after = before.clone();
+        assert_eq!(build_in(&request, &mut after), Ok(counts));
+        let (v, t) = (counts.vertices, counts.triangles);
+        assert_eq!(after.masks[..sites], full.masks[..]);
+        assert_eq!(after.table[..7 * sites], full.table[..]);
+        assert_eq!(after.vertices[..3 * v], full.vertices[..3 * v]);
+        assert_eq!(after.book[..4 * v], full.book[..4 * v]);
+        assert_eq!(after.triangles[..3 * t], full.triangles[..3 * t]);
+        assert_eq!(after.edges[..108 * cells], full.edges[..]);
+        assert_eq!(after.masks[sites..], before.masks[sites..]);
+        assert_eq!(after.table[7 * sites..], before.table[7 * sites..]);
+        assert_eq!(after.vertices[3 * v..], before.vertices[3 * v..]);
+        assert_eq!(after.book[4 * v..], before.book[4 * v..]);
+        assert_eq!(after.triangles[3 * t..], before.triangles[3 * t..]);
+        assert_eq!(after.edges[108 * cells..], before.edges[108 * cells..]);
+
+        let mesh = build(&request).unwrap();
+        assert_eq!(mesh.counts, counts);
+        assert!(mesh.triangles.iter().flatten().eq(&full.triangles[..3 * t]));
+    }
+}
+
+/// Whatever NaN stands in the samples, quiet or signalling, of either sign and with any payload: the same answer.
+#[test]
+fn every_nan_is_one() {
+    let quiet = f64::from_bits(0x7ff8000000000000);
+    let mut r = Random(77);
+    for _ in 0..200 {
+        let sides = [2 + r.below(3), 2 + r.below(3), 2 + r.below(3)];
+        let plain: Vec<f64> = (0..sides.iter().product()).map(|_| if r.below(6) == 0 { quiet } else { r.sample() }).collect();
+        let odd: Vec<f64> = plain
+            .iter()
+            .map(|x| if x.is_nan() { f64::from_bits(0x7ff0000000000000 | (r.next() << 63) | (1 + r.next() % 0xfffffffffffff)) } else { *x })
+            .collect();
+        assert!(odd.iter().zip(&plain).all(|(a, b)| a.is_nan() == b.is_nan()));
+        let a = build(&asked(sides, &plain)).unwrap();
+        assert_eq!(a, build(&asked(sides, &odd)).unwrap());
+        assert!(a.positions.iter().flatten().all(|x| x.is_finite()));
+    }
+}
+
+#[test]
+fn the_largest_box() {
+    let sides = [32, 32, 32];
+    let mut r = Random(5);
+    let s: Vec<f64> = (0..32768).map(|_| r.sample()).collect();
+    let mesh = build(&asked(sides, &s)).unwrap();
+    assert_eq!(mesh.counts.crossed, crossed(sides, &s));
+    let held: u32 = mesh.book.iter().map(|row| row[1]).sum();
+    assert_eq!(held as usize, mesh.counts.crossed);
+    assert_eq!(mesh.table.iter().filter(|&&v| v != NONE).count(), mesh.counts.crossed);
+}
+
+/// Method 0, two boxes that share a layer: their triangles together are those of the whole box. The frame is such that nothing is rounded.
+#[test]
+fn pieces_make_the_whole() {
+    let mut r = Random(1234567);
+    for _ in 0..40 {
+        let [nu, nv, nw, at] = [9, 6, 5, 1 + r.below(7)];
+        let s: Vec<f64> = (0..nu * nv * nw).map(|_| r.sample()).collect();
+        let corners = |mesh: &spoonthicket::Mesh| -> Vec<[[u64; 3]; 3]> {
+            mesh.triangles.iter().map(|t| t.map(|v| mesh.positions[v as usize].map(|x| (x + 0.0).to_bits()))).collect()
+        };
+        let mut whole = corners(&build(&Request { method: 0, ..asked([nu, nv, nw], &s) }).unwrap());
+        let mut pieces = Vec::new();
+        for (from, to) in [(0, at), (at, nu - 1)] {
+            let part: Vec<f64> = s.chunks(nu).flat_map(|row| &row[from..=to]).copied().collect();
+            let u = from as f64;
+            let request = Request { method: 0, origin: [-u, u, 0.0], ..asked([to - from + 1, nv, nw], &part) };
+            pieces.extend(corners(&build(&request).unwrap()));
+        }
+        whole.sort();
+        pieces.sort();
+        assert!(whole == pieces, "cut at {at}");
+    }
+}
+
+#[test]
+fn topology_of_document_01() {
+    let far = [f64::NAN; 14];
+    assert_eq!(topology(0, 1, &far), (4, vec![]));
+    assert_eq!(topology(0xC000, 1, &far), (4, vec![]));
+    assert_eq!(topology(0x3FFF, 1, &far), (0, (0..14).map(|e| 1 << e).collect()));
+    assert_eq!(topology(0x0003, 1, &far), (4, vec![3]));
+    assert_eq!(topology(0x0081, 1, &far), (3, vec![1, 0x80]));
+    assert_eq!(topology(0x2015, 1, &far), (1, vec![1, 4, 0x10, 0x2000]));
+    let mut ends = far;
+    (ends[0], ends[1], ends[4], ends[13]) = (1.0, 1.0, -3.0, -3.0);
+    assert_eq!(topology(0x2014, 1, &ends).0, 2);
+    (ends[0], ends[1]) = (3.0, 3.0);
+    assert_eq!(topology(0x2014, 1, &ends), (4, vec![0x2014]));
+    assert_eq!(topology(0x2014, 0, &ends), (5, vec![4, 0x10, 0x2000]));
+}
+
+#[test]
+fn sort_of_records() {
+    let mut r = Random(9);
+    for n in (0..60).chain([1000, 1001]) {
+        let mut words: Vec<u32> = (0..n).map(|_| r.below(7) as u32 * 0x2492_4924).collect();
+        let mut records: Vec<[u32; 3]> = words.chunks_exact(3).map(|c| c.try_into().unwrap()).collect();
+        let rest = words[n - n % 3..].to_vec();
+        sort(&mut words);
+        records.sort();
+        assert!(words.iter().eq(records.iter().flatten().chain(&rest)));
+    }
+}
+
+#[test]
+fn words_of_the_refusals() {
+    let all: Vec<&str> = (1..=7).map(|n| Refusal(n).words()).collect();
+    assert!(all.iter().all(|w| !w.is_empty()));
+    assert_eq!(Refusal(2).to_string(), "refused (2): a side not 1 to 32");
+}

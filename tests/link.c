@@ -1,0 +1,70 @@
+/* Links the archive from C by the header: document 01's example, one refusal, the topology test and the sort. Prints "ok". */
+#include "spoonthicket.h"
+
+#include <stdio.h>
+#include <string.h>
+
+enum { SITES = 27, CELLS = 8, MOST = 21 };
+
+static double samples[SITES];
+static uint16_t masks[SITES];
+static uint32_t table[7 * SITES];
+static double vertices[3 * MOST];
+static uint32_t book[4 * MOST];
+static uint32_t triangles[36 * CELLS];
+static uint32_t edges[108 * CELLS];
+
+static int failed(const char *what)
+{
+    printf("failed: %s\n", what);
+    return 1;
+}
+
+int main(void)
+{
+    const double frame[6] = {0.0, 0.0, 0.0, 1.0, 1.0, 1.0};
+    const size_t wanted[SPOONTHICKET_COUNTS] = {14, 8, 12, 0, 0, 0, 0, 8, 0, 0};
+    const size_t none[SPOONTHICKET_COUNTS] = {0};
+    size_t counts[SPOONTHICKET_COUNTS];
+    size_t i;
+
+    for (i = 0; i < SITES; i++)
+        samples[i] = i == 13 ? -1.0 : 1.0;
+    memset(counts, 0xFF, sizeof counts);
+    if (spoonthicket_build(3, 3, 3, 1, 4, frame, samples, SITES, masks, SITES, table, 7 * SITES, vertices, 3 * MOST, book, 4 * MOST,
+                           triangles, 36 * CELLS, edges, 108 * CELLS, counts) != SPOONTHICKET_DONE)
+        return failed("the example is refused");
+    if (memcmp(counts, wanted, sizeof counts) != 0)
+        return failed("the example's counts");
+    for (i = 0; i < 3 * counts[SPOONTHICKET_TRIANGLES]; i++)
+        if (triangles[i] >= counts[SPOONTHICKET_MADE])
+            return failed("a triangle without a vertex");
+
+    memset(masks, 0x5A, sizeof masks);
+    if (spoonthicket_build(3, 3, 3, 1, 4, frame, samples, SITES, masks, SITES, table, 7 * SITES, vertices, 3 * MOST, book, 4 * MOST - 1,
+                           triangles, 36 * CELLS, edges, 108 * CELLS, counts) != SPOONTHICKET_VERTICES)
+        return failed("a short book is not refused");
+    if (memcmp(counts, none, sizeof counts) != 0)
+        return failed("a refusal's counts");
+    for (i = 0; i < SITES; i++)
+        if (masks[i] != 0x5A5A)
+            return failed("a refusal stored something");
+
+    {
+        double ends[14] = {1.0, 1.0, 0.0, 0.0, -3.0, 0.0, 0.0, 0.0, 0.0, 0.0, 0.0, 0.0, 0.0, -3.0};
+        uint16_t clusters[14];
+        if (spoonthicket_topology(0x2014, 1, ends, clusters) != 2)
+            return failed("the flat hole");
+        if (clusters[0] != 4 || clusters[1] != 0x10 || clusters[2] != 0x2000 || clusters[3] != 0)
+            return failed("the flat hole's clusters");
+    }
+    {
+        uint32_t words[7] = {2, 1, 1, 1, 9, 9, 5};
+        const uint32_t sorted[7] = {1, 9, 9, 2, 1, 1, 5};
+        spoonthicket_sort(words, 7);
+        if (memcmp(words, sorted, sizeof words) != 0)
+            return failed("the sort");
+    }
+    printf("ok\n");
+    return 0;
+}
