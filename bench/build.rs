@@ -3,7 +3,7 @@
 // The Rust is the oracle's (tools/oracle), single thread, without the oracle's notes and checks. Its sample map, its map of marks (all 0) and its list
 // of keys are made outside the clock, as our six lists are; what it makes while it runs is inside. Ours is the linked archive.
 // Every answer is compared before a line is printed; a difference ends the program with an error.
-// A time is the median of its rounds, in microseconds; the two sides take turns.
+// A time is the least of its rounds, in microseconds; the two sides take turns.
 
 #![allow(dead_code)]
 
@@ -143,9 +143,8 @@ fn micros<T>(f: impl FnOnce() -> T) -> (f64, T) {
     (t.elapsed().as_secs_f64() * 1.0e6, r)
 }
 
-fn median(mut times: Vec<f64>) -> f64 {
-    times.sort_by(|a, b| a.partial_cmp(b).unwrap());
-    times[times.len() / 2]
+fn least(times: &[f64]) -> f64 {
+    times.iter().copied().fold(f64::INFINITY, f64::min)
 }
 
 /// The case and the clusters of every mask: ours and the Rust's, with the same values at the ends.
@@ -182,7 +181,7 @@ fn topology(rounds: usize) -> (f64, f64) {
         let (theirs, masks) = isosurface::topology_of(mask, true, [0; 3], &map);
         assert!(case == theirs && clusters.iter().copied().take_while(|m| *m != 0).eq(masks), "topology of {mask:04x} differs");
     }
-    (median(a), median(b))
+    (least(&a), least(&b))
 }
 
 fn main() {
@@ -219,7 +218,8 @@ fn main() {
                 let copy = ready.clone();
                 let (t, made) = micros(|| timed::whole(copy, 4));
                 times[2][1].push(t);
-                assert!(made.vertices.iter().eq(&l.vertices[..3 * counts[1]]), "positions differ");
+                let bits = |x: &f64| x.to_bits();
+                assert!(made.vertices.iter().map(bits).eq(l.vertices[..3 * counts[1]].iter().map(bits)), "positions differ");
                 assert!(made.facets.iter().map(|&v| v as u32).eq(l.tris[..3 * counts[2]].iter().copied()), "triangles differ");
                 assert!(made.counts[..] == counts[3..8] && made.crossed == crossed && crossed == counts[0], "counts differ");
                 // the march over the finished edge table
@@ -256,7 +256,7 @@ fn main() {
                 phases[7].push(t);
             }
             for (k, what) in ["marking", "march", "whole build"].iter().enumerate() {
-                let now = [median(times[k][0].clone()), median(times[k][1].clone())];
+                let now = [least(&times[k][0]), least(&times[k][1])];
                 rows[k].push(format!(
                     "| {what} | {n} | {:.0} | {:.0} | {:.1} | {} | {} |",
                     now[0],
@@ -267,22 +267,20 @@ fn main() {
                 ));
                 then[k] = now;
             }
-            let p: Vec<f64> = phases.into_iter().map(median).collect();
+            let p: Vec<f64> = phases.iter().map(|t| least(t)).collect();
             let whole = then[2][0];
             let once: f64 = p[..6].iter().sum();
             let share = |x: f64| format!("{:.0} ({:.0}%)", x, 100.0 * x / whole);
-            shares.push(format!(
-                "| {name} | {n} | {} | {} | {triangles} | {} | {} | {} | {} | {whole:.0} | {} | {} | {} | {} | {} | {} | {} | {:.0} | {:.0} |",
-                counts[0], counts[1], counts[2], counts[8], counts[9], "", share(p[0]), share(p[1]), share(p[2]), share(p[3]), share(p[4]), share(p[5]),
-                share((whole - once).max(0.0)), p[6], p[7]
-            ).replace(" |  | ", " | "));
+            let head = format!("| {name} | {n} | {} | {} | {} | {triangles} | {} | {} | {whole:.0}", counts[0], counts[1], counts[2], counts[8], counts[9]);
+            let parts: String = p[..6].iter().chain(&[(whole - once).max(0.0)]).map(|&x| format!(" | {}", share(x))).collect();
+            shares.push(format!("{head}{parts} | {:.0} | {:.0} |", p[6], p[7]));
         }
         for line in rows.iter().flatten() {
             println!("{line}");
         }
     }
     println!("\nphases of ours, microseconds and share of the whole build\n");
-    println!("| shape | a side | crossed | vertices | candidates' triangles | triangles | split | rounds | whole | count E | mark | draw | march | flags | clear | split and rounds | floor: samples | floor: zeros |");
+    println!("| shape | a side | crossed | vertices | triangles | before the split | split | rounds | whole | count E | mark | draw | march | flags | clear | the rest | floor: samples | floor: zeros |");
     println!("|---|---|---|---|---|---|---|---|---|---|---|---|---|---|---|---|---|---|");
     for line in shares {
         println!("{line}");
