@@ -3,12 +3,13 @@ use mathlib.Core.Path.{_≡_}
 use mathlib.Core.List.{List, [], _∷_, map}
 use Prim.Native.Nat.{ℕ, _+_, _*_, _<_}
 use lib.IntN.{ℤ, pos}
+use lib.Dec.{T, ltb, ltb→lt}
 use lib.ListN.{getD, length}
 use mir.Syntax.{w8}
 use mir.Val.{toZ, ofZ}
 use Rattle.laws.specs.Bools.{bit}
 use Rattle.laws.specs.Ranges.{all}
-use Rattle.laws.proofs.Ranges.{same-at, same-at2}
+use Rattle.laws.proofs.Ranges.{all-at, all-at2, same-at, same-at2}
 use Rattle.laws.proofs.Lists.{getD-map}
 use Rattle.tables.specs.declared.Delta.{Delta}
 use Rattle.tables.specs.declared.FlatHole.{FlatHole}
@@ -22,6 +23,13 @@ use Rattle.tables.proofs.Edges.{deltas-at}
 use Rattle.tables.proofs.FlatHoles.{flat-36}
 
 -- ---- tables of numbers
+
+-- entries that a computed test finds in range of a byte
+bytes-at : (n : ℕ) (f : ℕ → ℕ) → T (all n (λ k. ltb (f k) 256)) → (k : ℕ) → k < n → f k < 256
+bytes-at n f t k h = ltb→lt (f k) 256 (all-at n (λ k. ltb (f k) 256) t k h)
+
+bytes-at2 : (n m : ℕ) (f : ℕ → ℕ → ℕ) → T (all n (λ i. all m (λ j. ltb (f i j) 256))) → (i j : ℕ) → i < n → j < m → f i j < 256
+bytes-at2 n m f t i j hi hj = ltb→lt (f i j) 256 (all-at2 n m (λ i j. ltb (f i j) 256) t i j hi hj)
 
 abbrev reverses : List ℕ
 reverses = 7 ∷ 8 ∷ 9 ∷ 10 ∷ 11 ∷ 12 ∷ 13 ∷ 0 ∷ 1 ∷ 2 ∷ 3 ∷ 4 ∷ 5 ∷ 6 ∷ []
@@ -38,6 +46,20 @@ pub mask-at : (e : ℕ) → e < 14 → getD masks e 0 ≡ neighbourMask e
 unfolding all neighbourMask areNeighbours bit
 mask-at e h = same-at 14 (λ e. getD masks e 0) neighbourMask tt e h
 
+abbrev corners : List ℕ
+corners = 1 ∷ 3 ∷ 2 ∷ 5 ∷ 7 ∷ 6 ∷ 4 ∷ []
+
+pub corner-byte : (l : ℕ) → l < 7 → getD corners l 0 < 256
+unfolding all
+corner-byte l h = bytes-at 7 (λ l. getD corners l 0) tt l h
+
+abbrev labels : List ℕ
+labels = 0 ∷ 4 ∷ 1 ∷ 0 ∷ 3 ∷ 4 ∷ 3 ∷ 6 ∷ 4 ∷ 1 ∷ 4 ∷ 2 ∷ 2 ∷ 4 ∷ 5 ∷ 4 ∷ 6 ∷ 5 ∷ []
+
+pub label-byte : (t c : ℕ) → t < 6 → c < 3 → getD labels (3 * t + c) 0 < 256
+unfolding all
+label-byte t c ht hc = bytes-at2 6 3 (λ t c. getD labels (3 * t + c) 0) tt t c ht hc
+
 abbrev slots : List ℕ
 slots =
     0 ∷ 4 ∷ 1 ∷ 12 ∷ 9 ∷ 27 ∷ 0 ∷ 3 ∷ 4 ∷ 13 ∷ 12 ∷ 37 ∷ 3 ∷ 6 ∷ 4 ∷ 28 ∷ 37 ∷ 29
@@ -48,12 +70,20 @@ pub slot-at : (t e : ℕ) → t < 6 → e < 6 → getD slots (6 * t + e) 0 ≡ e
 unfolding all edgeIn edgeOf tetCorner tetLabel tetPair tetPairs cornerOf labelTo
 slot-at t e ht he = same-at2 6 6 (λ t e. getD slots (6 * t + e) 0) edgeIn tt t e ht he
 
+pub slot-byte : (t e : ℕ) → t < 6 → e < 6 → getD slots (6 * t + e) 0 < 256
+unfolding all
+slot-byte t e ht he = bytes-at2 6 6 (λ t e. getD slots (6 * t + e) 0) tt t e ht he
+
 abbrev counts : List ℕ
 counts = 0 ∷ 1 ∷ 1 ∷ 2 ∷ 1 ∷ 2 ∷ 2 ∷ 1 ∷ 1 ∷ 2 ∷ 2 ∷ 1 ∷ 2 ∷ 1 ∷ 1 ∷ 0 ∷ []
 
 pub count-at : (c : ℕ) → c < 16 → getD counts c 0 ≡ length (mtRow c)
 unfolding all mtRow
 count-at c h = same-at 16 (λ c. getD counts c 0) (λ c. length (mtRow c)) tt c h
+
+pub count-byte : (c : ℕ) → c < 16 → getD counts c 0 < 256
+unfolding all
+count-byte c h = bytes-at 16 (λ c. getD counts c 0) tt c h
 
 -- ---- tables of rows
 
@@ -70,6 +100,10 @@ rows =
 pub row-at : (c k : ℕ) → c < 16 → k < 6 → getD (getD rows c []) k 0 ≡ getD (flat (mtRow c)) k 0
 unfolding all flat mtRow
 row-at c k hc hk = same-at2 16 6 (λ c k. getD (getD rows c []) k 0) (λ c k. getD (flat (mtRow c)) k 0) tt c k hc hk
+
+pub row-byte : (c k : ℕ) → c < 16 → k < 6 → getD (getD rows c []) k 0 < 256
+unfolding all
+row-byte c k hc hk = bytes-at2 16 6 (λ c k. getD (getD rows c []) k 0) tt c k hc hk
 
 -- ---- tables of structs: the source has lists of fields
 

@@ -148,23 +148,23 @@ pub fn flat_hole(i: usize) -> FlatHole
 }
 
 // The corner of the cell to which each owned edge leads: du + 2 dv + 4 dw.
-const LABEL_CORNERS: [usize; 7] = [1, 3, 2, 5, 7, 6, 4];
+const LABEL_CORNERS: [u8; 7] = [1, 3, 2, 5, 7, 6, 4];
 
 pub fn label_corner(label: usize) -> usize
     requires { ⌜ label < 7 ⌝ }
     ensures { λ r. ⌜ r ≡ cornerOf label ⌝ }
 {
-    LABEL_CORNERS[label]
+    LABEL_CORNERS[label] as usize
 }
 
 // The six tetrahedra that a site owns: the labels of the edges to their other three corners.
-const OWNED_TET_EDGES: [usize; 18] = [0, 4, 1, 0, 3, 4, 3, 6, 4, 1, 4, 2, 2, 4, 5, 4, 6, 5];
+const OWNED_TET_EDGES: [u8; 18] = [0, 4, 1, 0, 3, 4, 3, 6, 4, 1, 4, 2, 2, 4, 5, 4, 6, 5];
 
 pub fn tet_label(tet: usize, corner: usize) -> usize
     requires { ⌜ (tet < 6) × (corner < 3) ⌝ }
     ensures { λ r. ⌜ r ≡ tetLabel tet corner ⌝ }
 {
-    OWNED_TET_EDGES[3 * tet + corner]
+    OWNED_TET_EDGES[3 * tet + corner] as usize
 }
 
 pub struct Ends {
@@ -187,7 +187,7 @@ pub fn tet_edge_pair(edge: usize) -> Ends
 }
 
 // The edges of each tetrahedron by their owners: 7 times the owner's corner of the cell, and the owner's label.
-const TET_SLOTS: [usize; 36] = [
+const TET_SLOTS: [u8; 36] = [
     0,
     4,
     1,
@@ -230,13 +230,13 @@ pub fn tet_slot(tet: usize, edge: usize) -> usize
     requires { ⌜ (tet < 6) × (edge < 6) ⌝ }
     ensures { λ r. ⌜ r ≡ edgeIn tet edge ⌝ }
 {
-    TET_SLOTS[6 * tet + edge]
+    TET_SLOTS[6 * tet + edge] as usize
 }
 
 // The triangles of each case of a tetrahedron, whose corners are edges of it: how many, and their corners one after the other.
-const MT_COUNTS: [usize; 16] = [0, 1, 1, 2, 1, 2, 2, 1, 1, 2, 2, 1, 2, 1, 1, 0];
+const MT_COUNTS: [u8; 16] = [0, 1, 1, 2, 1, 2, 2, 1, 1, 2, 2, 1, 2, 1, 1, 0];
 
-const MT_TABLE: [[usize; 6]; 16] = [
+const MT_TABLE: [[u8; 6]; 16] = [
     [0, 0, 0, 0, 0, 0],
     [0, 1, 2, 0, 0, 0],
     [0, 4, 3, 0, 0, 0],
@@ -259,7 +259,7 @@ pub fn mt_count(case: usize) -> usize
     requires { ⌜ case < 16 ⌝ }
     ensures { λ r. ⌜ r ≡ length (mtRow case) ⌝ }
 {
-    MT_COUNTS[case]
+    MT_COUNTS[case] as usize
 }
 
 pub fn mt_edge(case: usize, at: usize) -> usize
@@ -267,5 +267,5 @@ pub fn mt_edge(case: usize, at: usize) -> usize
     ensures { λ r. ⌜ r ≡ getD (flat (mtRow case)) at 0 ⌝ }
 {
     let row = MT_TABLE[case];
-    row[at]
+    row[at] as usize
 }
