@@ -7,8 +7,8 @@ use native.Mathlib.Nat.{add-zero}
 use native.Mathlib.Omega.{arith}
 use native.Mathlib.Decide.{ℕ-discrete}
 use lib.Dec.{eqb, ltb}
-use lib.ListN.{length, getD, set, take, drop, replicate, length-set, length-drop}
-use lib.Seq.{getD-set-same, getD-set-other, getD-take, getD-drop, length-take-le, ext-getD}
+use lib.ListN.{length, getD, set, take, drop, replicate, length-set, length-drop, length-append}
+use lib.Seq.{getD-set-same, getD-set-other, getD-take, getD-drop, length-take-le, take-append-le, ext-getD}
 use borrow.Author.Tests.{ltb-true, lt-ltb, eqb-true, eq-eqb}
 use borrow.Rule.Slice.PartMut.{putMid}
 use Rattle.laws.specs.Bools.{bit}
@@ -20,13 +20,13 @@ use Rattle.laws.proofs.Ranges.{fold-keeps}
 use Rattle.laws.proofs.Tails.{tail-is, tail-back}
 use Rattle.pairs.specs.declared.Rec.{Rec}
 use Rattle.pairs.specs.Records.{none, recs, words}
-use Rattle.pairs.specs.Order.{Perm, Sorts}
+use Rattle.pairs.specs.Order.{Perm}
 use Rattle.pairs.specs.Sides.{pairCount, next, over, overFlags, sideOf, sides}
 use Rattle.pairs.specs.Runs.{samePair, Front, flagged, crowded, marked}
-use Rattle.pairs.specs.Flags.{sent, pulled, Homed}
-use Rattle.pairs.proofs.Records.{rec-same, recs-getD, recs-words}
+use Rattle.pairs.specs.Flags.{sent, pulled, Homed, homeFlags}
+use Rattle.pairs.proofs.Records.{rec-same, recs-length, recs-getD, recs-words, words-length, words-whole}
 use Rattle.pairs.proofs.Order.{perm-length, perm-all}
-use Rattle.pairs.proofs.Runs.{same-ends, same-left, ends-same, run-count}
+use Rattle.pairs.proofs.Runs.{same-ends, same-left, ends-same, run-count, marked-length}
 use Rattle.pairs.proofs.Sides.{sides-length, sides-at, pair-count, pair-ends, flags-length, over-flag-at}
 
 -- ---- sending
@@ -215,33 +215,53 @@ module _ (s : List ℕ) (whole : length s % 3 ≡ 0) (l : List Rec) (perm : Perm
         sent-at (λ i. bit (over s i)) t homed (λ j b. word-flag j (omega arith) ∙ ap (λ (i : ℕ). bit (over s i)) (sym (word-side j (omega arith)))) n (omega arith) (f .0) (omega (arith, f .1)) in
         getD-take (length s) v k 0 lt ∙ pulled-at n u (omega arith) k (omega arith) ∙ (rw e at g) ∙ sym (over-flag-at s k lt))
 
--- ---- the room, stage by stage: filled, sorted, flagged, sent, pulled, cleared
+-- ---- the records in words, stage by stage: sorted, flagged, sent, pulled
 
-pub filled-perm : (s filled sorted : List ℕ) → filled ≡ words (sides s) → Sorts filled sorted → Perm (sides s) (recs sorted)
-filled-perm s filled sorted e p =
-    let q : recs filled ≡ sides s = ap recs e ∙ recs-words (sides s) in
-    rw q at (p .done .perm)
+-- flags leave the sides' numbers
+pub marked-homed : (s t : List ℕ) → length t ≡ length s → recs t ≡ marked (recs s) (recs s) → Homed s → Homed t
+unfolding marked flagged
+marked-homed s t e f h j b =
+    let b′ : j < length s / 3 = omega arith in
+    let g : getD t (j * 3 + 2) 0 ≡ getD s (j * 3 + 2) 0 =
+    sym (ap (λ (r : Rec). r .side) (recs-getD t j b)) ∙ ap (λ (m : List Rec). getD m j none .side) f
+    ∙ ap (λ (r : Rec). r .side) (getD-map (λ x. flagged (crowded (recs s) x) x) (recs s) j none none (omega (arith, recs-length s)))
+    ∙ ap (λ (r : Rec). r .side) (recs-getD s j b′) in
+    omega (arith, g, h j b′)
 
-module _ (s : List ℕ) (whole : length s % 3 ≡ 0) (sorted flagged : List ℕ) (perm : Perm (sides s) (recs sorted)) (size : length flagged ≡ length s * 3)
-    (flags : recs flagged ≡ marked (recs sorted) (recs sorted)) where
-  pub flagged-homed : Homed flagged
-  flagged-homed = homed s whole (recs sorted) perm flagged size flags
+pub home-is : (s t moved front : List ℕ) → length s % 3 ≡ 0 → length t ≡ length s → recs t ≡ marked (recs s) (recs s)
+    → moved ≡ fold sent (length t / 3) t → front ≡ fold pulled (length moved / 3) moved → front ≡ homeFlags s
+unfolding homeFlags
+home-is s t moved front whole e f g h =
+    let w : t ≡ words (marked (recs s) (recs s)) = sym (words-whole t (omega arith)) ∙ ap words f in
+    let n : length moved ≡ length s = ap length g ∙ sent-length (length t / 3) t ∙ e in
+    h ∙ ap₂ (λ (k : ℕ) (m : List ℕ). fold pulled (k / 3) m) n (g ∙ ap₂ (λ (k : ℕ) (m : List ℕ). fold sent (k / 3) m) e w)
 
-  module _ (moved front end : List ℕ) (sends : moved ≡ fold sent (length flagged / 3) flagged) (pulls : front ≡ fold pulled (length moved / 3) moved) where
-    moved-length : length moved ≡ length flagged
-    moved-length = ap length sends ∙ sent-length (length flagged / 3) flagged
+-- in front of the room the records of the sides, sorted
+module _ (s : List ℕ) (whole : length s % 3 ≡ 0) (front : List ℕ) (size : length front ≡ length s * 3) (perm : Perm (sides s) (recs front)) where
+  pub listed-homed : Homed front
+  listed-homed j h =
+      omega (arith, ap (λ (r : Rec). r .side) (recs-getD front j h), at-home s whole (recs front) perm j (omega arith) .0)
 
-    front-length : length front ≡ length s * 3
-    front-length = ap length pulls ∙ pulled-length (length moved / 3) moved ∙ moved-length ∙ size
+  flagged-words : length (words (marked (recs front) (recs front))) ≡ length front
+  flagged-words =
+      omega (arith, words-length (marked (recs front) (recs front)), marked-length (recs front) (recs front), recs-length front)
 
-    front-flags : take (length s) front ≡ overFlags s
-    front-flags =
-        ap (λ (q : List ℕ). take (length s) q) (pulls ∙ ap₂ (λ (k : ℕ) (m : List ℕ). fold pulled (k / 3) m) moved-length sends)
-        ∙ arrived s whole (recs sorted) perm flagged size flags
+  pub home-flags : take (length s) (homeFlags front) ≡ overFlags s
+  unfolding homeFlags
+  home-flags =
+      let t : List ℕ = words (marked (recs front) (recs front)) in
+      ap (λ (k : ℕ). take (length s) (fold pulled (k / 3) (fold sent (k / 3) t))) (sym flagged-words)
+      ∙ arrived s whole (recs front) perm t (flagged-words ∙ size) (recs-words (marked (recs front) (recs front)))
 
-    pub cleared : end ≡ replicate (length (take (length front - length s) (drop (length s) front))) 0
-        → putMid (length s) (length front - length s) front end ≡ overFlags s ++ replicate (length s * 2) 0
-    cleared e =
-        let n : length (take (length front - length s) (drop (length s) front)) ≡ length s * 2 =
-        omega (arith, ap length (tail-is (length s) front), length-drop (length s) front, front-length) in
-        tail-back (length s) front end ∙ ap₂ (λ (a b : List ℕ). a ++ b) front-flags (e ∙ ap (λ (k : ℕ). replicate k 0) n)
+  -- the flags in front of the room, then zeros
+  pub cleared : (room home end : List ℕ) → length front ≤ length room → length home ≡ length front → home ≡ homeFlags front
+      → end ≡ replicate (length (take (length (home ++ drop (length s * 3) room) - length s) (drop (length s) (home ++ drop (length s * 3) room)))) 0
+      → putMid (length s) (length (home ++ drop (length s * 3) room) - length s) (home ++ drop (length s * 3) room) end ≡ overFlags s ++ replicate (length room - length s) 0
+  cleared room home end fits kept is e =
+      let all : List ℕ = home ++ drop (length s * 3) room in
+      let whole-length : length all ≡ length room = omega (arith, length-append home (drop (length s * 3) room), length-drop (length s * 3) room) in
+      let n : length (take (length all - length s) (drop (length s) all)) ≡ length room - length s =
+      omega (arith, ap length (tail-is (length s) all), length-drop (length s) all) in
+      let flags : take (length s) all ≡ overFlags s =
+      take-append-le (length s) home (drop (length s * 3) room) (omega arith) ∙ ap (λ (q : List ℕ). take (length s) q) is ∙ home-flags in
+      tail-back (length s) all end ∙ ap₂ (λ (a b : List ℕ). a ++ b) flags (e ∙ ap (λ (k : ℕ). replicate k 0) n)

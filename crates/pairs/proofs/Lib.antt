@@ -2,6 +2,7 @@
 pub mod Records
 pub mod Order
 pub mod Sinking
+pub mod Dealing
 pub mod Depth
 pub mod Runs
 pub mod Sides

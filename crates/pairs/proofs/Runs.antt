@@ -132,7 +132,7 @@ pub walked-none : (l : List Rec) → Walked l l 0
 unfolding All marked
 walked-none l = record { apart = tt; flags = refl }
 
-marked-length : (l m : List Rec) → length (marked l m) ≡ length m
+pub marked-length : (l m : List Rec) → length (marked l m) ≡ length m
 unfolding marked
 marked-length l m = length-map m (λ x. flagged (crowded l x) x)
 

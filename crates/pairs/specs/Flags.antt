@@ -2,6 +2,9 @@
 use mathlib.Core.List.{List}
 use Prim.Native.Nat.{ℕ, _+_, _*_, _/_, _<_}
 use lib.ListN.{length, getD, set}
+use Rattle.laws.specs.Ranges.{fold}
+use Rattle.pairs.specs.Records.{recs, words}
+use Rattle.pairs.specs.Runs.{marked}
 
 -- the flag of record j goes to the first word of the record that stands at the place of j's side
 unfoldable pub sent : ℕ → List ℕ → List ℕ
@@ -14,3 +17,7 @@ pulled k s = set s k (getD s (k * 3) 0)
 -- the side numbers are below the number of records
 abbrev pub Homed : List ℕ → Type 0
 Homed s = (j : ℕ) → j < length s / 3 → getD s (j * 3 + 2) 0 < length s / 3
+
+-- the flags of the records of s, sent and pulled
+unfoldable pub homeFlags : List ℕ → List ℕ
+homeFlags s = fold pulled (length s / 3) (fold sent (length s / 3) (words (marked (recs s) (recs s))))

@@ -58,3 +58,9 @@ pub record Room (s room : List ℕ) : Type 0 where
   pub whole : length s % 3 ≡ 0
   pub nine : length room ≡ length s * 3
   pub fits : length s ≤ 4294967296
+
+-- the same, and perhaps more behind it
+pub record Wide (s room : List ℕ) : Type 0 where
+  pub whole : length s % 3 ≡ 0
+  pub nine : length s * 3 ≤ length room
+  pub fits : length s ≤ 4294967296

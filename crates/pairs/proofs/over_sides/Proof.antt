@@ -1,34 +1,36 @@
 -- `pairs::over_sides` meets its contract. Assumes nothing.
-use mathlib.Core.Path.{_≡_, _∙_}
-use Prim.Native.Nat.{_*_}
+use mathlib.Core.Path.{_≡_, sym, ap, _∙_}
+use mathlib.Core.List.{_++_}
+use Prim.Native.Nat.{ℕ, _*_, _-_, _≤_}
+use native.Mathlib.Omega.{arith}
+use lib.ListN.{length, take, replicate}
+use lib.Seq.{length-take-le}
+use Rattle.pairs.specs.Sides.{overFlags}
+use Rattle.pairs.proofs.Flags.{listed-homed, cleared}
 use borrow.Author.Needs.{needs}
-use lib.ListN.{length}
-use Rattle.pairs.proofs.Flags.{filled-perm, flagged-homed, cleared}
 use Rattle.pairs.proofs.over_sides.Statement.{statement}
 use Rattle.pairs.proofs.over_sides.Tie as tie
 
-fill-requires : tie.Need-fill-requires
-fill-requires c κs = search needs
+mul-w : tie.Need-mul-w
+mul-w c = search needs
 
-sort-requires : tie.Need-sort-requires
-sort-requires c κs = search needs
+list-sides-requires : tie.Need-list-sides-requires
+list-sides-requires c κs = search needs
 
-flag-runs-requires : tie.Need-flag-runs-requires
-flag-runs-requires c κs = search needs
+slice-relend-prefix-flag-home : tie.Need-slice-relend-prefix-flag-home
+slice-relend-prefix-flag-home c = search needs
 
-scatter-requires : tie.Need-scatter-requires
-scatter-requires c κs =
-    let s = c .before .before .before .before .before .before .before .before .before .before .before .before .before .before .before .args .tris .now in
-    let p = c .before .before .before .before .before .before .before .before .before .before .before .before .before .before .before .pre in
-    let r₁ = c .before .before .before .before .before .before .before .before .before .before .before .fill in
-    let r₂ = c .before .before .before .before .before .before .before .sort in
-    let r₃ = c .before .before .before .flag-runs in
-    let perm = filled-perm s (r₁ .last .1 .0) (r₂ .last .0) (r₁ .ensures) (r₂ .ensures) in
-    let size : length (r₃ .last .0) ≡ length s * 3 = r₃ .kept .0 ∙ r₂ .kept .0 ∙ r₁ .kept .1 .0 ∙ p .nine in
-    flagged-homed s (p .whole) (r₂ .last .0) (r₃ .last .0) perm size (r₃ .ensures)
+slice-aggregate-flag-home : tie.Need-slice-aggregate-flag-home
+slice-aggregate-flag-home c = sym (length-take-le _ (c .before .before .before .list-sides .last .1 .0) (slice-relend-prefix-flag-home (c .before)))
 
-gather-requires : tie.Need-gather-requires
-gather-requires c κs = search needs
+flag-home-requires : tie.Need-flag-home-requires
+flag-home-requires c κs =
+    let s = c .before .before .before .before .before .before .before in
+    let tris = s .args .tris .now in
+    let listed = c .before .before .before .list-sides in
+    let w : ℕ = length tris * 3 in
+    let size : length (take w (listed .last .1 .0)) ≡ w = length-take-le w (listed .last .1 .0) (slice-relend-prefix-flag-home (c .before)) in
+    (omega (arith, size), listed .ensures .sorted, listed-homed tris (s .pre .whole) (take w (listed .last .1 .0)) size (listed .ensures .perm))
 
 mul-clear : tie.Need-mul-clear
 mul-clear c = search needs
@@ -50,27 +52,27 @@ same-length c = search needs
 
 returns : tie.Need-returns
 returns c =
-    let s = c .before .before .before .before .before .before .before .before .before .before .before .before .before .before .before .before .before .before .before .before .before .before .before .before .before .before .args .tris .now in
-    let p = c .before .before .before .before .before .before .before .before .before .before .before .before .before .before .before .before .before .before .before .before .before .before .before .before .before .before .pre in
-    let r₁ = c .before .before .before .before .before .before .before .before .before .before .before .before .before .before .before .before .before .before .before .before .before .before .fill in
-    let r₂ = c .before .before .before .before .before .before .before .before .before .before .before .before .before .before .before .before .before .before .sort in
-    let r₃ = c .before .before .before .before .before .before .before .before .before .before .before .before .before .before .flag-runs in
-    let perm = filled-perm s (r₁ .last .1 .0) (r₂ .last .0) (r₁ .ensures) (r₂ .ensures) in
-    let size : length (r₃ .last .0) ≡ length s * 3 = r₃ .kept .0 ∙ r₂ .kept .0 ∙ r₁ .kept .1 .0 ∙ p .nine in
-    let r₄ = c .before .before .before .before .before .before .before .before .before .before .scatter in
-    let r₅ = c .before .before .before .before .before .before .gather in
-    let r₆ = c .before .before .clear in
-    cleared s (p .whole) (r₂ .last .0) (r₃ .last .0) perm size (r₃ .ensures) (r₄ .last .0) (r₅ .last .0) (r₆ .last .0) (r₄ .ensures) (r₅ .ensures) (r₆ .ensures)
+    let s = c .before .before .before .before .before .before .before .before .before .before .before .before .before .before in
+    let tris = s .args .tris .now in
+    let listed = c .before .before .before .before .before .before .before .before .before .before .list-sides in
+    let home = c .before .before .before .before .before .before .flag-home in
+    let end = c .before .before .clear in
+    let w : ℕ = length tris * 3 in
+    let room = listed .last .1 .0 in
+    let fits : w ≤ length room = slice-relend-prefix-flag-home (c .before .before .before .before .before .before .before .before) in
+    let size : length (take w room) ≡ w = length-take-le w room fits in
+    cleared tris (s .pre .whole) (take w room) size (listed .ensures .perm) room (home .last .0) (end .last .0) (omega (arith, size, fits)) (home .kept .0) (home .ensures) (end .ensures)
+    ∙ ap (λ (k : ℕ). overFlags tris ++ replicate (k - length tris) 0) (listed .kept .1 .0)
 
 pub over-sides-spec : {M : Type 1} → statement M
 over-sides-spec =
     tie.close
     (tie.spec
-    fill-requires
-    sort-requires
-    flag-runs-requires
-    scatter-requires
-    gather-requires
+    mul-w
+    list-sides-requires
+    slice-relend-prefix-flag-home
+    slice-aggregate-flag-home
+    flag-home-requires
     mul-clear
     sub-clear
     part-clear-start
