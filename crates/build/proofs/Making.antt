@@ -33,9 +33,9 @@ use Rattle.stages.proofs.Longer.{round-longer, split-longer}
 use Rattle.stages.proofs.Room.{stage-count}
 use Rattle.stages.proofs.Rounds.{done-none, rounds-none}
 use Rattle.stages.proofs.Stages.{given-case, rounds-stage, split-stage}
-use Rattle.flags.specs.Flags.{EndsFit, Flaggable, endIn, sideFlags, withFlags}
-use Rattle.flags.proofs.Meshes.{mesh-ends-fit, mesh-flaggable, sites-cells}
-use Rattle.flags.proofs.Meaning.{flag-read}
+use Rattle.flags.specs.Flags.{EndsFit, EndsUnder, Flaggable, endIn, fitting, sideFlags, withFlags}
+use Rattle.flags.proofs.Meshes.{mesh-ends-fit, mesh-ends-under, mesh-flaggable, sites-cells}
+use Rattle.flags.proofs.Meaning.{fits-under, flag-read, sides-length}
 use Rattle.flags.proofs.Split.{calm-count, calm-split, ends-flagged}
 use Rattle.flags.proofs.Rollback.{calm-owners}
 use Rattle.passes.specs.Passing.{flagOf}
@@ -187,6 +187,10 @@ module _ (f : Frame) (n : Sides) (S : List Float) (h : Float) (cluster : Bool) (
           subst (λ (y : List ℕ × ℕ). EndsFit (y .0) room (36 * y .1)) (λ i. (sym shown i, sym ec i))
           (mesh-ends-fit (boxOf n S h cluster) (candidates (boxOf n S h cluster)) room (36 * cells n) words)
 
+      pub first-under : EndsUnder (take (3 * r .stand .triangles) tr′) (r .stand .vertices)
+      first-under =
+          subst (λ (y : List ℕ × ℕ). EndsUnder (y .0) (y .1)) (λ i. (sym shown i, sym (whole .lists .next) i)) (mesh-ends-under (boxOf n S h cluster) (candidates (boxOf n S h cluster)))
+
       module _ (x : Bool) (ex : x ≡ any (length (take (3 * r .stand .triangles) tr′)) (over (take (3 * r .stand .triangles) tr′))) where
         crowd : x ≡ any (length (flat (meshOf (boxOf n S h cluster) (candidates (boxOf n S h cluster))))) (over (flat (meshOf (boxOf n S h cluster) (candidates (boxOf n S h cluster)))))
         crowd = ex ∙ (λ i. any (length (shown i)) (over (shown i)))
@@ -214,7 +218,7 @@ module _ (f : Frame) (n : Sides) (S : List Float) (h : Float) (cluster : Bool) (
 
         -- WITH ONE, THE FLAGS ARE THOSE OF THE SPLIT
         pub first-parting : x ≡ true → (room′ : List ℕ)
-            → room′ ≡ withFlags (sideFlags (take (3 * r .stand .triangles) tr′) room) (36 * c) (length room - 36 * c) (endIn (take (3 * r .stand .triangles) tr′)) → Parting n S h cluster room′
+            → room′ ≡ withFlags (sideFlags (take (3 * r .stand .triangles) tr′) (r .stand .vertices) room) (36 * c) (fitting (r .stand .vertices) (36 * c) room) (endIn (take (3 * r .stand .triangles) tr′)) → Parting n S h cluster room′
         unfolding flagOf
         first-parting z room′ e = record {
           flags = λ v l.
@@ -223,8 +227,10 @@ module _ (f : Frame) (n : Sides) (S : List Float) (h : Float) (cluster : Bool) (
               ap (λ (y : ℕ). eqb (getD (drop (36 * y) room′) v 0) 1) (sym ec)
               ∙ ap (λ (y : ℕ). eqb (getD (drop (36 * c) room′) y 0) 1) (sym j)
               ∙ ap (λ (y : ℕ). eqb y 1) (tail-at 0 (36 * c) room′ (36 * c + v) (omega arith) ∙ ap (λ (y : List ℕ). getD y (36 * c + v) 0) e
-              ∙ flag-read (take (3 * r .stand .triangles) tr′) room (36 * c) first-flaggable (endIn (take (3 * r .stand .triangles) tr′)) v
-              (omega (arith, ec, words (cells-some z))))
+              ∙ flag-read (sideFlags (take (3 * r .stand .triangles) tr′) (r .stand .vertices) room) (36 * c) (fitting (r .stand .vertices) (36 * c) room)
+              (omega (arith, first-flaggable .within, sides-length (take (3 * r .stand .triangles) tr′) room (36 * c) first-flaggable (r .stand .vertices)))
+              (endIn (take (3 * r .stand .triangles) tr′)) v
+              (fits-under (r .stand .vertices) (36 * c) room v (omega (arith, l, whole .lists .next)) (omega (arith, l, ec, words (cells-some z)))))
               ∙ bit-one (endIn (take (3 * r .stand .triangles) tr′) v) ∙ ap (λ (y : List ℕ). endIn y v) shown ∙ sym (ends-flagged b v);
         }
 

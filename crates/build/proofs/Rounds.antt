@@ -2,7 +2,7 @@
 use mathlib.Core.Path.{_≡_, refl, sym, ap, subst, _∙_}
 use mathlib.Core.Bool.{Bool, true, false, false≢true}
 use mathlib.Core.List.{List, [], _∷_}
-use Prim.Native.Nat.{ℕ, _+_, _*_, _-_, _≤_, _<_}
+use Prim.Native.Nat.{ℕ, _+_, _*_, _-_, _/_, _≤_, _<_}
 use native.Mathlib.Omega.{arith}
 use lib.Dec.{eqb}
 use lib.ListN.{length, getD, take, drop, length-drop}
@@ -24,10 +24,10 @@ use Rattle.stages.specs.Meshes.{bookOf, meshOf}
 use Rattle.stages.specs.Rounds.{isIn, owners}
 use Rattle.stages.specs.Samples.{boxOf}
 use Rattle.stages.specs.Stages.{again}
-use Rattle.flags.specs.Flags.{Flaggable, OwnersFit, ownerIn, sideFlags, withFlags}
+use Rattle.flags.specs.Flags.{Flaggable, OwnersFit, OwnersUnder, fitting, ownerIn, sideFlags, withFlags}
 use Rattle.flags.proofs.Meshes.{mesh-flaggable, sites-cells}
-use Rattle.flags.proofs.Meaning.{flag-read}
-use Rattle.flags.proofs.Rollback.{flagged-owner, owners-flags, owners-quiet, stage-owners-fit, stage-sites}
+use Rattle.flags.proofs.Meaning.{fits-under, flag-read, sides-length}
+use Rattle.flags.proofs.Rollback.{flagged-owner, owners-flags, owners-quiet, stage-owners-fit, stage-owners-under, stage-sites}
 use Rattle.vertices.specs.Appending.{Space}
 use Rattle.rollback.specs.Rolling.{Ready, Rolled, Rolling}
 use Rattle.build.specs.declared.Stand.{Stand}
@@ -74,30 +74,42 @@ module _ (f : Frame) (n : Sides) (S : List Float) (h : Float) (at : Stand) (m t 
   round-fits =
       subst (λ (y : List ℕ × List ℕ × ℕ). OwnersFit (y .0) (y .1) room (36 * y .2)) (λ i. (sym shown i, sym book-is i, sym ec i)) fits
 
+  many : length t / 7 ≡ sites n
+  many = omega (arith, L .table)
+
+  under : OwnersUnder (flat (meshOf (boxOf n S h (x .cluster)) (x .vertices))) (sets k 0 (bookOf (x .vertices))) (sites n)
+  unfolding boxOf
+  under = stage-owners-under (boxOf n S h (x .cluster)) (x .vertices) k room rows (x .stage)
+
+  pub round-under : OwnersUnder (take (3 * at .triangles) tr) k (length t / 7)
+  round-under =
+      subst (λ (y : List ℕ × List ℕ × ℕ). OwnersUnder (y .0) (y .1) (y .2)) (λ i. (sym shown i, sym book-is i, sym many i)) under
+
   -- the test of a site
   asked : (s : ℕ) → ownerIn (take (3 * at .triangles) tr) k s ≡ ownerIn (flat (meshOf (boxOf n S h (x .cluster)) (x .vertices))) (sets k 0 (bookOf (x .vertices))) s
   asked s = λ i. ownerIn (shown i) (book-is i) s
 
-  module _ (r : Bool) (er : r ≡ any (length room - 36 * c) (ownerIn (take (3 * at .triangles) tr) k)) where
-    found : r ≡ any (length room - 36 * cells n) (ownerIn (flat (meshOf (boxOf n S h (x .cluster)) (x .vertices))) (sets k 0 (bookOf (x .vertices))))
-    found = er ∙ (λ i. any (length room - 36 * ec i) (ownerIn (shown i) (book-is i)))
+  module _ (r : Bool) (er : r ≡ any (fitting (length t / 7) (36 * c) room) (ownerIn (take (3 * at .triangles) tr) k)) where
+    found : r ≡ any (fitting (sites n) (36 * cells n) room) (ownerIn (flat (meshOf (boxOf n S h (x .cluster)) (x .vertices))) (sets k 0 (bookOf (x .vertices))))
+    found = er ∙ (λ i. any (fitting (many i) (36 * ec i) room) (ownerIn (shown i) (book-is i)))
 
     -- NO OWNER
     pub round-quiet : r ≡ false → owners (boxOf n S h (x .cluster)) (x .vertices) ≡ []
-    round-quiet z = owners-quiet (boxOf n S h (x .cluster)) (x .vertices) k room rows (36 * cells n) fits (sym found ∙ z)
+    round-quiet z = owners-quiet (boxOf n S h (x .cluster)) (x .vertices) k room rows (fitting (sites n) (36 * cells n) room)
+        (λ j l. fits-under (sites n) (36 * cells n) room _ (under j l) (fits j l .1)) (sym found ∙ z)
 
     -- SOME OWNER
     pub round-some : r ≡ true → (s : ℕ) × (os : List ℕ) × (owners (boxOf n S h (x .cluster)) (x .vertices) ≡ s ∷ os)
     round-some z =
-        flagged-owner (boxOf n S h (x .cluster)) (x .vertices) k rows (stage-sites (boxOf n S h (x .cluster)) (x .stage)) (length room - 36 * cells n) (sym found ∙ z)
+        flagged-owner (boxOf n S h (x .cluster)) (x .vertices) k rows (stage-sites (boxOf n S h (x .cluster)) (x .stage)) (fitting (sites n) (36 * cells n) room) (sym found ∙ z)
 
     cells-some : r ≡ true → 0 < cells n
     cells-some z =
-        let w = any-one (length room - 36 * cells n) _ (sym found ∙ z) in
-        let l : w .0 < length room - 36 * cells n = w .1 in
+        let w = any-one (fitting (sites n) (36 * cells n) room) _ (sym found ∙ z) in
+        let l : w .0 < fitting (sites n) (36 * cells n) room = w .1 in
         omega (arith, L .edges, l)
 
-    module _ (some : r ≡ true) (room′ fl : List ℕ) (e : room′ ≡ withFlags (sideFlags (take (3 * at .triangles) tr) room) (36 * c) (length room - 36 * c) (ownerIn (take (3 * at .triangles) tr) k))
+    module _ (some : r ≡ true) (room′ fl : List ℕ) (e : room′ ≡ withFlags (sideFlags (take (3 * at .triangles) tr) (at .vertices) room) (36 * c) (fitting (length t / 7) (36 * c) room) (ownerIn (take (3 * at .triangles) tr) k))
         (long : length room′ ≡ length room) (efl : fl ≡ take (length room′ - 36 * c) (drop (36 * c) room′)) where
       tail : fl ≡ drop (36 * c) room′
       tail = efl ∙ tail-is (36 * c) room′
@@ -113,8 +125,10 @@ module _ (f : Frame) (n : Sides) (S : List Float) (h : Float) (at : Stand) (m t 
           ap (λ (y : List ℕ). eqb (getD y s 0) 1) tail
           ∙ ap (λ (y : ℕ). eqb (getD (drop (36 * c) room′) y 0) 1) (sym j)
           ∙ ap (λ (y : ℕ). eqb y 1) (tail-at 0 (36 * c) room′ (36 * c + s) (omega arith) ∙ ap (λ (y : List ℕ). getD y (36 * c + s) 0) e
-          ∙ flag-read (take (3 * at .triangles) tr) room (36 * c) round-flaggable (ownerIn (take (3 * at .triangles) tr) k) s
-          (omega (arith, L .edges, ec, sites-cells n (cells-some some), cells-some some)))
+          ∙ flag-read (sideFlags (take (3 * at .triangles) tr) (at .vertices) room) (36 * c) (fitting (length t / 7) (36 * c) room)
+          (omega (arith, round-flaggable .within, sides-length (take (3 * at .triangles) tr) room (36 * c) round-flaggable (at .vertices)))
+          (ownerIn (take (3 * at .triangles) tr) k) s
+          (fits-under (length t / 7) (36 * c) room s (omega (arith, l, many)) (omega (arith, l, L .edges, ec, sites-cells n (cells-some some), cells-some some))))
           ∙ bit-one (ownerIn (take (3 * at .triangles) tr) k s) ∙ asked s
           ∙ sym (owners-flags (boxOf n S h (x .cluster)) (x .vertices) k rows s l)
 

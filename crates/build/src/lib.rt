@@ -126,7 +126,7 @@ fn one_round(
 {
     let a = 36 * lattice::cell_count(n);
     let w = 3 * at.triangles;
-    let more = flags::flag_owners(&tris[..w], book, room, a);
+    let more = flags::flag_owners(&tris[..w], book, room, a, table.len() / 7, at.vertices);
     if !more {
         return Round { more, stand: at };
     }
@@ -291,7 +291,7 @@ fn make(
     );
     let stand = drawn.stand;
     let w = 3 * stand.triangles;
-    if flags::flag_ends(&tris[..w], room, a) {
+    if flags::flag_ends(&tris[..w], room, a, stand.vertices) {
         return remake(
             frame,
             n,

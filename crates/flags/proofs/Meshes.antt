@@ -26,7 +26,7 @@ use Rattle.stages.specs.Boxes.{Box}
 use Rattle.stages.specs.Vertices.{Vertex}
 use Rattle.stages.specs.Meshes.{fieldOf, find, meshOf}
 use Rattle.stages.proofs.Lookup.{entry-named}
-use Rattle.flags.specs.Flags.{Flaggable, EndsFit}
+use Rattle.flags.specs.Flags.{Flaggable, EndsFit, EndsUnder}
 
 -- where no number passes, none does
 pub any-off : (n : ℕ) (p : ℕ → Bool) → any n p ≡ false → (k : ℕ) → k < n → p k ≡ false
@@ -131,6 +131,9 @@ module _ (b : Box) (vs : List Vertex) where
       let n = flat-length (meshOf b vs) in
       let m = mesh-few in
       record { whole = omega arith; nine = omega arith; front = omega arith; within = omega arith; fits = omega (arith, cells-most (b .sides) f) }
+
+  pub mesh-ends-under : EndsUnder (flat (meshOf b vs)) (length vs)
+  mesh-ends-under = corner-low b vs
 
   -- a word a vertex behind a, if there is a cell
   pub mesh-ends-fit : (room : List ℕ) (a : ℕ) → (0 < cells (b .sides) → a + length vs ≤ length room) → EndsFit (flat (meshOf b vs)) room a

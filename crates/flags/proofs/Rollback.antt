@@ -27,7 +27,7 @@ use Rattle.stages.proofs.Book.{book-length, book-row, cluster-book}
 use Rattle.stages.proofs.Flags.{owns-are}
 use Rattle.stages.proofs.Members.{stage-all}
 use Rattle.stages.proofs.Rounds.{owners-in, owners-none, owners-some}
-use Rattle.flags.specs.Flags.{OwnersFit, clusterIn, ownerIn}
+use Rattle.flags.specs.Flags.{OwnersFit, clusterIn, ownerIn, OwnersUnder}
 use Rattle.flags.specs.Turns.{wanted}
 use Rattle.flags.proofs.Meaning.{owner-corners, owners-found}
 use Rattle.flags.proofs.Meshes.{any-off, corner-low, mesh-cells, mesh-proper, sites-cells}
@@ -136,26 +136,34 @@ module _ (b : Box) (vs : List Vertex) (book : List ℕ) (room : 4 * length vs �
 -- ---- what the flags of the owners ask: a row a vertex in the book, and, if there is a cell, a word a site behind a
 
 module _ (b : Box) (vs : List Vertex) (book room : List ℕ) (rows : 4 * length vs ≤ length book) where
-  pub mesh-owners-fit : All (λ x. x .site < sites (b .sides)) vs → (a : ℕ) → (0 < cells (b .sides) → a + sites (b .sides) ≤ length room)
-      → OwnersFit (flat (meshOf b vs)) (sets book 0 (bookOf vs)) room a
-  mesh-owners-fit low a f k l =
+  -- the site of a corner's vertex, by the book
+  corner-site : All (λ x. x .site < sites (b .sides)) vs → OwnersUnder (flat (meshOf b vs)) (sets book 0 (bookOf vs)) (sites (b .sides))
+  corner-site low k l =
       let v : ℕ = getD (flat (meshOf b vs)) k 0 in
       let c : v < length vs = corner-low b vs k l in
       let at : getD (sets book 0 (bookOf vs)) (4 * v) 0 ≡ getD vs v nobody .site = book-at vs book rows (4 * v) (omega arith) ∙ book-row vs v c .site in
-      (omega (arith, length-sets book 0 (bookOf vs)), omega (arith, all-member nobody (λ x. x .site < sites (b .sides)) vs low v c, f (mesh-cells b vs k l)))
+      omega (arith, at, all-member nobody (λ x. x .site < sites (b .sides)) vs low v c)
+
+  pub mesh-owners-fit : All (λ x. x .site < sites (b .sides)) vs → (a : ℕ) → (0 < cells (b .sides) → a + sites (b .sides) ≤ length room)
+      → OwnersFit (flat (meshOf b vs)) (sets book 0 (bookOf vs)) room a
+  mesh-owners-fit low a f k l =
+      (omega (arith, length-sets book 0 (bookOf vs), corner-low b vs k l), omega (arith, corner-site low k l, f (mesh-cells b vs k l)))
+
+  pub stage-owners-under : Stage b vs → OwnersUnder (flat (meshOf b vs)) (sets book 0 (bookOf vs)) (sites (b .sides))
+  stage-owners-under st = corner-site (stage-sites b st)
 
   -- 108 words a cell are enough
   pub stage-owners-fit : Stage b vs → 108 * cells (b .sides) ≤ length room → OwnersFit (flat (meshOf b vs)) (sets book 0 (bookOf vs)) room (36 * cells (b .sides))
   stage-owners-fit st h = mesh-owners-fit (stage-sites b st) (36 * cells (b .sides)) (λ c. omega (arith, sites-cells (b .sides) c))
 
-  -- no flag in the room, no owner
-  pub owners-quiet : (a : ℕ) → OwnersFit (flat (meshOf b vs)) (sets book 0 (bookOf vs)) room a
-      → any (length room - a) (ownerIn (flat (meshOf b vs)) (sets book 0 (bookOf vs))) ≡ false → owners b vs ≡ []
-  owners-quiet a fit e =
+  -- no flag among m, no owner
+  pub owners-quiet : (m : ℕ) → OwnersUnder (flat (meshOf b vs)) (sets book 0 (bookOf vs)) m
+      → any m (ownerIn (flat (meshOf b vs)) (sets book 0 (bookOf vs))) ≡ false → owners b vs ≡ []
+  owners-quiet m under e =
       let s : List ℕ = flat (meshOf b vs) in
       let book′ : List ℕ = sets book 0 (bookOf vs) in
       let whole : length s % 3 ≡ 0 = omega (arith, flat-length (meshOf b vs)) in
-      let none : any (length s) (wanted s book′) ≡ false = owners-found s book′ whole (length room - a) (λ k h. omega (arith, fit k h .1)) ∙ e in
+      let none : any (length s) (wanted s book′) ≡ false = owners-found s book′ whole m under ∙ e in
       owners-none b vs (any-none (sites (b .sides)) _ (λ v l.
       owners-flagged b vs book rows v ∙ sym (owner-corners s book′ whole v)
       ∙ any-none (length s) _ (λ k h. ap (λ (c : Bool). c && eqb v (getD book′ (4 * getD s k 0) 0)) (any-off (length s) (wanted s book′) none k h))))

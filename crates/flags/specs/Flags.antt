@@ -2,7 +2,7 @@
 use mathlib.Core.Path.{_≡_}
 use mathlib.Core.Bool.{Bool, _&&_, _||_}
 use mathlib.Core.List.{List, [], _∷_, _++_}
-use Prim.Native.Nat.{ℕ, _+_, _*_, _/_, _%_, _≤_, _<_}
+use Prim.Native.Nat.{ℕ, _+_, _*_, _-_, _/_, _%_, _≤_, _<_, min}
 use lib.Dec.{eqb, ltb}
 use lib.ListN.{length, getD, take, drop, replicate}
 use Rattle.laws.specs.Bools.{bit}
@@ -21,19 +21,38 @@ pub record Flaggable (s room : List ℕ) (a : ℕ) : Type 0 where
 abbrev pub EndsFit : List ℕ → List ℕ → ℕ → Type 0
 EndsFit s room a = (k : ℕ) → k < length s → a + getD s k 0 < length room
 
+-- there are m vertices
+abbrev pub EndsUnder : List ℕ → ℕ → Type 0
+EndsUnder s m = (k : ℕ) → k < length s → getD s k 0 < m
+
 -- every vertex of s has a row in the book, and its site a word behind a
 abbrev pub OwnersFit : List ℕ → List ℕ → List ℕ → ℕ → Type 0
 OwnersFit s book room a = (k : ℕ) → k < length s → (4 * getD s k 0 + 3 < length book) × (a + getD book (4 * getD s k 0) 0 < length room)
 
+-- there are m sites
+abbrev pub OwnersUnder : List ℕ → List ℕ → ℕ → Type 0
+OwnersUnder s book m = (k : ℕ) → k < length s → getD book (4 * getD s k 0) 0 < m
+
 -- ---- what is flagged
 
--- what `pairs::over_sides` on the front leaves
-unfoldable pub sideFlags : List ℕ → List ℕ → List ℕ
-sideFlags s room = overFlags s ++ replicate (length s * 2) 0 ++ drop (length s * 3) room
+-- of m flags from a on, those that have room
+abbrev pub fitting : ℕ → ℕ → List ℕ → ℕ
+fitting m a room = min m (length room - a)
 
--- the first a words of l, then m flags
+-- the words that `pairs::over_sides` is lent: nine a triangle and v more, or all
+abbrev pub reach : List ℕ → ℕ → List ℕ → ℕ
+reach s v room = length s * 3 + fitting v (length s * 3) room
+
+-- what it leaves
+unfoldable pub sideFlags : List ℕ → ℕ → List ℕ → List ℕ
+sideFlags s v room = overFlags s ++ replicate (reach s v room - length s) 0 ++ drop (reach s v room) room
+
+-- the first a words of l, then m flags, then the words of l behind them
+abbrev pub frontFlags : List ℕ → ℕ → ℕ → (ℕ → Bool) → List ℕ
+frontFlags l a m p = take a l ++ each m (λ v. bit (p v) ∷ [])
+
 abbrev pub withFlags : List ℕ → ℕ → ℕ → (ℕ → Bool) → List ℕ
-withFlags l a m p = take a l ++ each m (λ v. bit (p v) ∷ [])
+withFlags l a m p = frontFlags l a m p ++ drop (a + m) l
 
 -- v is an end of a side that is over
 unfoldable pub endIn : List ℕ → ℕ → Bool

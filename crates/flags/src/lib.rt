@@ -1,23 +1,31 @@
 // Flags behind the flags of the sides: which vertices are ends of a side that is over, and which sites own a live cluster vertex in a triangle with such a side.
 ghost use mathlib.Core.Path.{_≡_};
-ghost use mathlib.Core.Bool.{_||_};
-ghost use mathlib.Core.List.{_++_};
-ghost use Prim.Native.Nat.{_+_, _*_, _-_, _/_, _<_};
+ghost use mathlib.Core.Bool.{false, _||_};
+ghost use Prim.Native.Nat.{_+_, _*_, _/_, _<_, min};
 ghost use lib.Dec.{ltb};
-ghost use lib.ListN.{length, getD, take, replicate};
+ghost use lib.ListN.{length, getD};
 ghost use Rattle.laws.specs.Ranges.{any, fold};
 ghost use Rattle.pairs.specs.Sides.{over};
-ghost use Rattle.flags.specs.Flags.{Flaggable, EndsFit, OwnersFit, sideFlags, withFlags, endIn, ownerIn};
+ghost use Rattle.flags.specs.Flags.{Flaggable, EndsFit, EndsUnder, OwnersFit, OwnersUnder, fitting, sideFlags, withFlags, endIn, ownerIn};
 ghost use Rattle.flags.specs.Turns.{Ready, mark, endTurn, flagged, wanted, ownerTurn};
 
-// The flags of the sides in front, zeros from a on.
-fn prepare(tris: &[u32], room: &mut [u32], a: usize)
+// The lower of two numbers.
+fn least(x: usize, y: usize) -> usize
+    ensures { λ r. ⌜ r ≡ min x y ⌝ }
+{
+    if x < y { x } else { y }
+}
+
+// The flags of the sides in front, and zeros for m flags from a on, if they have room. The sort may count in v words, if it has so many.
+fn prepare(tris: &[u32], room: &mut [u32], a: usize, m: usize, v: usize)
     requires { ⌜ Flaggable (now tris) (now room) a ⌝ }
-    ensures { λ _. ⌜ now (room .exit) ≡ take a (sideFlags (now (tris .entry)) (now (room .entry))) ++ replicate (length (now (room .entry)) - a) 0 ⌝ }
+    ensures { λ _. ⌜ now (room .exit) ≡ withFlags (sideFlags (now (tris .entry)) v (now (room .entry))) a (fitting m a (now (room .entry))) (λ _. false) ⌝ }
 {
     let w = tris.len() * 3;
-    pairs::over_sides(tris, &mut room[..w]);
-    pairs::clear(&mut room[a..]);
+    let u = w + least(v, room.len() - w);
+    pairs::over_sides(tris, &mut room[..u]);
+    let b = a + least(m, room.len() - a);
+    pairs::clear(&mut room[a..b]);
 }
 
 // ---- ends
@@ -54,14 +62,15 @@ fn flag_sides(tris: &[u32], room: &mut [u32], a: usize) -> bool
     found
 }
 
-// Which vertices are ends of a side that is over; whether any side is.
-pub fn flag_ends(tris: &[u32], room: &mut [u32], a: usize) -> bool
-    requires { ⌜ Flaggable (now tris) (now room) a × EndsFit (now tris) (now room) a ⌝ }
+// Which of m vertices are ends of a side that is over; whether any side is.
+pub fn flag_ends(tris: &[u32], room: &mut [u32], a: usize, m: usize) -> bool
+    requires { ⌜ Flaggable (now tris) (now room) a × EndsFit (now tris) (now room) a × EndsUnder (now tris) m ⌝ }
     ensures { λ r. ⌜ r ≡ any (length (now (tris .entry))) (over (now (tris .entry))) ⌝ }
-    ensures { λ _. ⌜ now (room .exit) ≡ withFlags (sideFlags (now (tris .entry)) (now (room .entry))) a (length (now (room .entry)) - a) (endIn (now (tris .entry))) ⌝ }
+    ensures { λ _. ⌜ now (room .exit) ≡ withFlags (sideFlags (now (tris .entry)) m (now (room .entry))) a (fitting m a (now (room .entry))) (endIn (now (tris .entry))) ⌝ }
 {
-    prepare(tris, room, a);
-    flag_sides(tris, room, a)
+    prepare(tris, room, a, m, m);
+    let b = a + least(m, room.len() - a);
+    flag_sides(tris, &mut room[..b], a)
 }
 
 // ---- owners
@@ -132,12 +141,20 @@ fn flag_corners(tris: &[u32], book: &[u32], room: &mut [u32], a: usize) -> bool
     found
 }
 
-// Which sites own a live cluster vertex in a triangle with a side that is over; whether any does.
-pub fn flag_owners(tris: &[u32], book: &[u32], room: &mut [u32], a: usize) -> bool
-    requires { ⌜ Flaggable (now tris) (now room) a × OwnersFit (now tris) (now book) (now room) a ⌝ }
-    ensures { λ r. ⌜ r ≡ any (length (now (room .entry)) - a) (ownerIn (now (tris .entry)) (now (book .entry))) ⌝ }
-    ensures { λ _. ⌜ now (room .exit) ≡ withFlags (sideFlags (now (tris .entry)) (now (room .entry))) a (length (now (room .entry)) - a) (ownerIn (now (tris .entry)) (now (book .entry))) ⌝ }
+// Which of m sites own a live cluster vertex in a triangle with a side that is over; whether any does. There are v vertices.
+pub fn flag_owners(
+    tris: &[u32],
+    book: &[u32],
+    room: &mut [u32],
+    a: usize,
+    m: usize,
+    v: usize,
+) -> bool
+    requires { ⌜ Flaggable (now tris) (now room) a × OwnersFit (now tris) (now book) (now room) a × OwnersUnder (now tris) (now book) m ⌝ }
+    ensures { λ r. ⌜ r ≡ any (fitting m a (now (room .entry))) (ownerIn (now (tris .entry)) (now (book .entry))) ⌝ }
+    ensures { λ _. ⌜ now (room .exit) ≡ withFlags (sideFlags (now (tris .entry)) v (now (room .entry))) a (fitting m a (now (room .entry))) (ownerIn (now (tris .entry)) (now (book .entry))) ⌝ }
 {
-    prepare(tris, room, a);
-    flag_corners(tris, book, room, a)
+    prepare(tris, room, a, m, v);
+    let b = a + least(m, room.len() - a);
+    flag_corners(tris, book, &mut room[..b], a)
 }

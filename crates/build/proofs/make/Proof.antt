@@ -1,5 +1,5 @@
 -- `build::make` meets its contract. Assumes nothing.
-use Rattle.build.proofs.Making.{lent-after, none-paired, first-low, first-flaggable, first-fits, first-finished, first-parting, first-over}
+use Rattle.build.proofs.Making.{lent-after, none-paired, first-low, first-flaggable, first-fits, first-under, first-finished, first-parting, first-over}
 use Rattle.build.proofs.Standing.{cells-few}
 use lib.Seq.{length-take-le}
 use native.Mathlib.Omega.{arith}
@@ -58,7 +58,7 @@ flag-ends-requires c κs =
     let L = s .pre .0 in
     let m = c .before .before .before .before .before .before .before .before .before .before .before .before .before .before .before .before .before .before .cell-count in
     let d = c .before .before .before .before .before .before .before .before .before .before .before .before .draw in
-    (first-flaggable (a .frame) (a .n) (a .samples .now) (a .h) (a .cluster) (a .masks .now) (a .table .now) (a .positions .now) (a .book .now) (a .tris .now) (a .room .now) (s .pre .0) (a .most) (d .result) _ _ _ _ (d .ensures) (m .result) (m .ensures), first-fits (a .frame) (a .n) (a .samples .now) (a .h) (a .cluster) (a .masks .now) (a .table .now) (a .positions .now) (a .book .now) (a .tris .now) (a .room .now) (s .pre .0) (a .most) (d .result) _ _ _ _ (d .ensures) (m .result) (m .ensures))
+    (first-flaggable (a .frame) (a .n) (a .samples .now) (a .h) (a .cluster) (a .masks .now) (a .table .now) (a .positions .now) (a .book .now) (a .tris .now) (a .room .now) (s .pre .0) (a .most) (d .result) _ _ _ _ (d .ensures) (m .result) (m .ensures), first-fits (a .frame) (a .n) (a .samples .now) (a .h) (a .cluster) (a .masks .now) (a .table .now) (a .positions .now) (a .book .now) (a .tris .now) (a .room .now) (s .pre .0) (a .most) (d .result) _ _ _ _ (d .ensures) (m .result) (m .ensures), first-under (a .frame) (a .n) (a .samples .now) (a .h) (a .cluster) (a .masks .now) (a .table .now) (a .positions .now) (a .book .now) (a .tris .now) (a .room .now) (s .pre .0) (a .most) (d .result) _ _ _ _ (d .ensures) (m .result) (m .ensures))
 
 remake-requires : tie.Need-remake-requires
 remake-requires c κs =

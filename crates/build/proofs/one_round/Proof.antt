@@ -1,5 +1,5 @@
 -- `build::one_round` meets its contract. Assumes nothing.
-use Rattle.build.proofs.Rounds.{round-low, round-flaggable, round-fits, round-still, round-ready, round-turned}
+use Rattle.build.proofs.Rounds.{round-low, round-flaggable, round-fits, round-under, round-still, round-ready, round-turned}
 use Rattle.build.proofs.Standing.{cells-few}
 use lib.Seq.{length-take-le}
 use native.Mathlib.Omega.{arith}
@@ -41,7 +41,7 @@ flag-owners-requires c κs =
     let s = c .before .before .before .before .before .before .before .before .before .before .before .before in
     let a = s .args in
     let m = c .before .before .before .before .cell-count in
-    (round-flaggable (a .frame) (a .n) (a .samples .now) (a .h) (a .at) (a .masks .now) (a .table .now) (a .positions .now) (a .book .now) (a .tris .now) (a .room .now) (s .pre .0) (s .pre .1) (m .result) (m .ensures), round-fits (a .frame) (a .n) (a .samples .now) (a .h) (a .at) (a .masks .now) (a .table .now) (a .positions .now) (a .book .now) (a .tris .now) (a .room .now) (s .pre .0) (s .pre .1) (m .result) (m .ensures))
+    (round-flaggable (a .frame) (a .n) (a .samples .now) (a .h) (a .at) (a .masks .now) (a .table .now) (a .positions .now) (a .book .now) (a .tris .now) (a .room .now) (s .pre .0) (s .pre .1) (m .result) (m .ensures), round-fits (a .frame) (a .n) (a .samples .now) (a .h) (a .at) (a .masks .now) (a .table .now) (a .positions .now) (a .book .now) (a .tris .now) (a .room .now) (s .pre .0) (s .pre .1) (m .result) (m .ensures), round-under (a .frame) (a .n) (a .samples .now) (a .h) (a .at) (a .masks .now) (a .table .now) (a .positions .now) (a .book .now) (a .tris .now) (a .room .now) (s .pre .0) (s .pre .1) (m .result) (m .ensures))
 
 same-length : tie.Need-same-length
 same-length c = search needs
