@@ -37,7 +37,7 @@ extern "C" {
         nu: usize, nv: usize, nw: usize, samples: *const f64, samples_len: usize, table: *const u32, table_len: usize, tris: *mut u32,
         tris_len: usize,
     ) -> usize;
-    fn phase_flag(tris: *const u32, tris_len: usize, room: *mut u32, room_len: usize, a: usize) -> bool;
+    fn phase_flag(tris: *const u32, tris_len: usize, room: *mut u32, room_len: usize, a: usize, m: usize) -> bool;
     fn phase_clear(room: *mut u32, room_len: usize);
 }
 
@@ -125,9 +125,9 @@ impl Lists {
         unsafe { phase_march(n, n, n, s.as_ptr(), s.len(), self.table.as_ptr(), self.table.len(), self.tris.as_mut_ptr(), self.tris.len()) }
     }
 
-    fn flag(&mut self, n: usize, triangles: usize) -> bool {
+    fn flag(&mut self, n: usize, triangles: usize, vertices: usize) -> bool {
         let a = 36 * (n - 1) * (n - 1) * (n - 1);
-        unsafe { phase_flag(self.tris.as_ptr(), 3 * triangles, self.edges.as_mut_ptr(), self.edges.len(), a) }
+        unsafe { phase_flag(self.tris.as_ptr(), 3 * triangles, self.edges.as_mut_ptr(), self.edges.len(), a, vertices) }
     }
 
     fn clear(&mut self) {
@@ -240,12 +240,12 @@ fn main() {
                 assert!(e == crossed);
                 phases[0].push(t);
                 phases[1].push(*times[0][0].last().unwrap());
-                let (t, _) = micros(|| l.draw(n, &s));
+                let (t, vertices) = micros(|| l.draw(n, &s));
                 phases[2].push(t);
                 let (t, k) = micros(|| l.march(n, &s));
                 phases[3].push(t);
                 triangles = k;
-                let (t, _) = micros(|| l.flag(n, k));
+                let (t, _) = micros(|| l.flag(n, k, vertices));
                 phases[4].push(t);
                 let (t, _) = micros(|| l.clear());
                 phases[5].push(t);

@@ -227,14 +227,19 @@ fn time_sort(recs: &[Rec]) -> [f64; 2] {
     [median(a), median(b)]
 }
 
-// Milliseconds of the three ways to the flags, and how many sides are flagged.
-fn time_flags(tris: &[u32]) -> ([f64; 3], usize) {
+// Milliseconds of the four ways to the flags, and how many sides are flagged. The second way lends a word for each vertex besides, where there are no more vertices than sides.
+fn time_flags(tris: &[u32]) -> ([f64; 4], usize) {
     let n = tris.len();
-    let (mut a, mut b, mut c) = (Vec::new(), Vec::new(), Vec::new());
+    let ends = tris.iter().max().map_or(0, |v| *v as usize + 1);
+    let more = if ends <= n { ends } else { 0 };
+    let (mut a, mut d, mut b, mut c) = (Vec::new(), Vec::new(), Vec::new(), Vec::new());
     let mut flagged = 0;
     for _ in 0..ROUNDS {
         let mut room = vec![9; n * 3];
         a.push(millis(|| rattle_over_sides(black_box(tris), black_box(&mut room))));
+        let mut wide = vec![9; n * 3 + more];
+        d.push(millis(|| rattle_over_sides(black_box(tris), black_box(&mut wide))));
+        assert!(wide[..n * 3] == room[..] && wide[n * 3..].iter().all(|w| *w == 0), "flags differ with more room");
         let mut recs = vec![[9; 3]; n];
         let mut by_sort = vec![9; n];
         b.push(millis(|| {
@@ -249,7 +254,7 @@ fn time_flags(tris: &[u32]) -> ([f64; 3], usize) {
         assert!(room[n..].iter().all(|w| *w == 0), "the rest of the room is not zero");
         flagged = by_hash.iter().filter(|f| **f == 1).count();
     }
-    ([median(a), median(b), median(c)], flagged)
+    ([median(a), median(d), median(b), median(c)], flagged)
 }
 
 fn main() {
@@ -295,24 +300,27 @@ fn main() {
     println!();
     println!("flags, milliseconds (median of {ROUNDS})");
     println!();
-    println!("| shape | sides | flagged | Rattle | sort_unstable | HashMap | Rattle / sort_unstable | Rattle / HashMap | growth Rattle | growth sort_unstable | growth HashMap |");
-    println!("|---|---|---|---|---|---|---|---|---|---|---|");
+    println!("| shape | sides | flagged | Rattle | Rattle, more room | sort_unstable | HashMap | Rattle / sort_unstable | more room / sort_unstable | more room / HashMap | growth Rattle | growth more room | growth sort_unstable | growth HashMap |");
+    println!("|---|---|---|---|---|---|---|---|---|---|---|---|---|---|");
     for (name, make) in lists {
-        let mut then = [0.0; 3];
+        let mut then = [0.0; 4];
         for size in SIZES {
             let tris = make(size.div_ceil(3));
             let (t, flagged) = time_flags(&tris);
             println!(
-                "| {name} | {} | {flagged} | {:.1} | {:.1} | {:.1} | {:.2} | {:.2} | {} | {} | {} |",
+                "| {name} | {} | {flagged} | {:.1} | {:.1} | {:.1} | {:.1} | {:.2} | {:.2} | {:.2} | {} | {} | {} | {} |",
                 tris.len(),
                 t[0],
                 t[1],
                 t[2],
-                t[0] / t[1],
+                t[3],
                 t[0] / t[2],
+                t[1] / t[2],
+                t[1] / t[3],
                 grows(t[0], then[0]),
                 grows(t[1], then[1]),
-                grows(t[2], then[2])
+                grows(t[2], then[2]),
+                grows(t[3], then[3])
             );
             then = t;
         }

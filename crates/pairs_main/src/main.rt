@@ -1,5 +1,5 @@
 // The sides of a few small meshes, filled and sorted, and the flags of those whose pair is a side more than twice: each room word by word.
-ghost use Rattle.pairs.specs.Sides.{Room};
+ghost use Rattle.pairs.specs.Sides.{Wide};
 use libc::STDOUT_FILENO;
 
 // A word as one sign: 0 to 9, then a to z.
@@ -32,7 +32,7 @@ fn show(room: &[u32]) {
 }
 
 fn flags(tris: &[u32], room: &mut [u32])
-    requires { ⌜ Room (now tris) (now room) ⌝ }
+    requires { ⌜ Wide (now tris) (now room) ⌝ }
 {
     pairs::over_sides(tris, room);
     show(room);
@@ -49,6 +49,11 @@ fn main() {
     flags(&fan, &mut room);
     pairs::clear(&mut room);
     show(&room);
+    // With words to count by: one for each vertex, and too few.
+    let mut wide = [9u32; 32];
+    flags(&fan, &mut wide);
+    let mut few = [9u32; 28];
+    flags(&fan, &mut few);
     // A tetrahedron.
     let tetra: [u32; 12] = [0, 1, 2, 0, 3, 1, 1, 3, 2, 2, 3, 0];
     let mut more = [9u32; 36];
