@@ -4,5 +4,6 @@ pub mod Flat
 pub mod Places
 pub mod March
 pub mod Walk
+pub mod Columns
 pub mod Finer
 pub mod Answer

@@ -1,7 +1,7 @@
 -- The case of four optional samples, and the optional sample of a corner. Assumes nothing.
 use mathlib.Core.Bool.{Bool, false, _&&_, cond}
 use mathlib.Core.List.{List, [], _∷_}
-use Prim.Native.Nat.{ℕ, _+_, _*_}
+use Prim.Native.Nat.{ℕ, suc, _+_, _*_}
 use lib.Dec.{ltb}
 use lib.ListN.{getD}
 use lib.Ieee.{Float, nan}
@@ -42,9 +42,24 @@ code ok side = cond ok (bit side) 16
 unfoldable pub codeOf : Sample → Float → ℕ
 codeOf x h = code (isThere x) (isBelow x h)
 
+unfoldable pub valueCode : Float → Float → ℕ
+valueCode v h = codeOf (Value v) h
+
 -- the eight corners of the cell at (u, v) of the first layer, in the order of their numbers
 unfoldable pub codesOf : Sides → List Float → Float → ℕ → ℕ → List ℕ
 codesOf n s h u v = each 8 (λ c. codeOf (sampleAt n s (step (du c) u) (step (dv c) v) (step (dw c) 0)) h ∷ [])
+
+-- the four of them at u, in the order of v and w; from the list, where site i has rows of nu sites and layers of nn
+unfoldable pub columnOf : Sides → List Float → Float → ℕ → ℕ → List ℕ
+columnOf n s h u v = codeOf (sampleAt n s u v 0) h ∷ codeOf (sampleAt n s u (suc v) 0) h ∷ codeOf (sampleAt n s u v 1) h ∷ codeOf (sampleAt n s u (suc v) 1) h ∷ []
+
+unfoldable pub columnAt : List Float → Float → ℕ → ℕ → ℕ → List ℕ
+columnAt s h i nu nn =
+    valueCode (getD s i nan) h ∷ valueCode (getD s (i + nu) nan) h ∷ valueCode (getD s (i + nn) nan) h ∷ valueCode (getD s (i + nu + nn) nan) h ∷ []
+
+-- two columns as the corners of a cell
+unfoldable pub joined : List ℕ → List ℕ → List ℕ
+joined l r = getD l 0 0 ∷ getD r 0 0 ∷ getD l 1 0 ∷ getD r 1 0 ∷ getD l 2 0 ∷ getD r 2 0 ∷ getD l 3 0 ∷ getD r 3 0 ∷ []
 
 -- the case of four corners: below 16 where all are there
 unfoldable pub caseBy : ℕ → ℕ → ℕ → ℕ → ℕ

@@ -4,14 +4,14 @@ ghost use mathlib.Core.Path.{_≡_};
 ghost use mathlib.Core.Bool.{_||_};
 ghost use mathlib.Core.List.{[], _∷_};
 ghost use lib.Dec.{eqb};
-ghost use Prim.Native.Nat.{ℕ, _+_, _*_, _-_, _<_, _≤_};
-ghost use lib.ListN.{length, getD};
+ghost use Prim.Native.Nat.{_+_, _*_, _-_, _<_, _≤_};
+ghost use lib.ListN.{length};
 ghost use Rattle.laws.specs.Written.{Written};
 ghost use Rattle.tables.specs.Edges.{du, dv, dw};
 ghost use Rattle.tables.specs.Cases.{flat};
 ghost use Rattle.lattice.specs.Sites.{SidesFit, sites, InBox, step};
 ghost use Rattle.tets.specs.March.{casesAt, siteTris, slab, march};
-ghost use Rattle.tets.specs.Samples.{caseFrom, sampleAt, codeOf, codesOf, caseBy, caseOn, codeSum};
+ghost use Rattle.tets.specs.Samples.{caseFrom, sampleAt, valueCode, codeOf, codesOf, columnAt, columnOf, joined, caseBy, caseOn, codeSum};
 ghost use Rattle.tets.specs.Lists.{fieldOf};
 ghost use Rattle.tets.specs.Loop.{lookUp, cornerAt, tetFlat, cellFlat, rowFlat, InTable, Coded, Placed, Lent, Lends};
 use lattice::Sides;
@@ -21,19 +21,23 @@ use sides::Sample;
 // An edge without a vertex.
 pub const NONE: u32 = 0xFFFF_FFFF;
 
-// A corner as a number: 0 outside, 1 inside, 16 where it is missing or not finite.
+// A corner as a number: 0 outside, 1 inside, 16 where it is missing or not finite. First one that is there.
+fn value_code(v: f64, h: f64) -> usize
+    ensures { λ r. ⌜ r ≡ valueCode v h ⌝ }
+{
+    if sides::is_finite(v) {
+        if sides::is_inside(v, h) { 1 } else { 0 }
+    } else {
+        16
+    }
+}
+
 fn sample_code(x: Sample, h: f64) -> usize
     ensures { λ r. ⌜ r ≡ codeOf x h ⌝ }
 {
     match x {
         Sample::Missing => 16,
-        Sample::Value(v) => {
-            if sides::is_finite(v) {
-                if sides::is_inside(v, h) { 1 } else { 0 }
-            } else {
-                16
-            }
-        }
+        Sample::Value(v) => value_code(v, h),
     }
 }
 
@@ -239,7 +243,42 @@ fn code_sum(codes: &[usize; 8]) -> usize
     sum
 }
 
-// The triangles of the cell at (u, v) of the first layer: none where all corners are outside or all are inside.
+// The numbers of the four corners with the u of site i, in the order of v and w.
+fn column(s: &[f64], i: usize, nu: usize, nn: usize, h: f64) -> [usize; 4]
+    requires { ⌜ i + nu + nn < length (now s) ⌝ }
+    ensures { λ r. ⌜ r ≡ columnAt (now (s .entry)) h i nu nn ⌝ }
+{
+    let a = value_code(s[i], h);
+    let b = value_code(s[i + nu], h);
+    let c = value_code(s[i + nn], h);
+    let d = value_code(s[i + nu + nn], h);
+    [a, b, c, d]
+}
+
+// Two columns as a cell's corners.
+fn join(left: &[usize; 4], right: &[usize; 4]) -> [usize; 8]
+    requires { ⌜ (length (now left) ≡ 4) × (length (now right) ≡ 4) ⌝ }
+    ensures { λ r. ⌜ r ≡ joined (now (left .entry)) (now (right .entry)) ⌝ }
+{
+    [
+        left[0],
+        right[0],
+        left[1],
+        right[1],
+        left[2],
+        right[2],
+        left[3],
+        right[3],
+    ]
+}
+
+// After a cell: the next free place, and the column on its right.
+pub struct Cell {
+    pub next: usize,
+    pub right: [usize; 4],
+}
+
+// The triangles of the cell at (u, v) of the first layer, given the column on its left: none where all corners are outside or all are inside.
 fn march_cell(
     s: &[f64],
     edges: &[u32],
@@ -249,22 +288,27 @@ fn march_cell(
     u: usize,
     v: usize,
     h: f64,
-) -> usize
+    left: &[usize; 4],
+) -> Cell
     requires { ⌜ Lent n (now s) (now edges) × (u + 1 < n .nu) × (v + 1 < n .nv) ⌝ }
-    requires { ⌜ at + 36 ≤ length (now tris) ⌝ }
-    ensures { λ r. ⌜ Written (now (tris .entry)) at (flat (siteTris (fieldOf n (now (s .entry)) h (now (edges .entry))) u v 0)) (now (tris .exit)) r ⌝ }
+    requires { ⌜ (at + 36 ≤ length (now tris)) × (now left ≡ columnOf n (now s) h u v) ⌝ }
+    ensures { λ r. ⌜ Written (now (tris .entry)) at (flat (siteTris (fieldOf n (now (s .entry)) h (now (edges .entry))) u v 0)) (now (tris .exit)) (r .next) ⌝ }
+    ensures { λ r. ⌜ r .right ≡ columnOf n (now (s .entry)) h (u + 1) v ⌝ }
 {
-    let codes = corner_codes(s, n, u, v, h);
-    let sum = code_sum(&codes);
-    if sum == 0 {
-        return at;
-    }
-    if sum == 8 {
-        return at;
-    }
     let nu = n.nu;
     let nn = nu * n.nv;
-    march_tets(edges, tris, at, u + nu * v, nu, nn, &codes)
+    let i = u + nu * v;
+    let right = column(s, i + 1, nu, nn, h);
+    let codes = join(left, &right);
+    let sum = code_sum(&codes);
+    if sum == 0 {
+        return Cell { next: at, right };
+    }
+    if sum == 8 {
+        return Cell { next: at, right };
+    }
+    let next = march_tets(edges, tris, at, i, nu, nn, &codes);
+    Cell { next, right }
 }
 
 // The triangles of one row of cells of the first layer.
@@ -282,9 +326,13 @@ fn march_row(
     ensures { λ r. ⌜ Written (now (tris .entry)) at (rowFlat (fieldOf n (now (s .entry)) h (now (edges .entry))) v) (now (tris .exit)) r ⌝ }
 {
     let mut next = at;
-    let m = n.nu - 1;
+    let nu = n.nu;
+    let m = nu - 1;
+    let mut left = column(s, nu * v, nu, nu * n.nv, h);
     for u in 0..m {
-        next = march_cell(s, edges, tris, next, n, u, v, h);
+        let cell = march_cell(s, edges, tris, next, n, u, v, h, &left);
+        next = cell.next;
+        left = cell.right;
     }
     next
 }
