@@ -1,11 +1,11 @@
 // The constant tables of the lattice's fourteen edges and of the march, each read by a function with an exact promise.
 // Every index is the caller's to keep in range: the callers are loops over the tables' own sizes.
 ghost use mathlib.Core.Path.{_≡_};
-ghost use Prim.Native.Nat.{_<_};
+ghost use Prim.Native.Nat.{suc, _<_};
 ghost use lib.ListN.{length, getD};
 ghost use Rattle.tables.specs.Edges.{delta, reverse, neighbourMask, cornerOf};
 ghost use Rattle.tables.specs.FlatHoles.{flatHole};
-ghost use Rattle.tables.specs.Tets.{tetLabel, tetPair, edgeIn};
+ghost use Rattle.tables.specs.Tets.{tetLabel, tetCorner, tetPair, edgeIn};
 ghost use Rattle.tables.specs.Cases.{mtRow, flat};
 
 // The number of edges at a site, and of those that it owns.
@@ -147,14 +147,14 @@ pub fn flat_hole(i: usize) -> FlatHole
     }
 }
 
-// The corner of the cell to which each owned edge leads: du + 2 dv + 4 dw.
-const LABEL_CORNERS: [u8; 7] = [1, 3, 2, 5, 7, 6, 4];
+// The corner of the cell to which each owned edge leads, du + 2 dv + 4 dw: label 0 in the lowest digit.
+const LABEL_CORNERS: usize = 0x0467_5231;
 
 pub fn label_corner(label: usize) -> usize
     requires { ⌜ label < 7 ⌝ }
     ensures { λ r. ⌜ r ≡ cornerOf label ⌝ }
 {
-    LABEL_CORNERS[label] as usize
+    (LABEL_CORNERS >> (4 * label)) % 8
 }
 
 // The six tetrahedra that a site owns: the labels of the edges to their other three corners.
@@ -165,6 +165,16 @@ pub fn tet_label(tet: usize, corner: usize) -> usize
     ensures { λ r. ⌜ r ≡ tetLabel tet corner ⌝ }
 {
     OWNED_TET_EDGES[3 * tet + corner] as usize
+}
+
+// The corners of the cell at the other ends of those edges.
+const TET_CORNERS: [u8; 18] = [1, 7, 3, 1, 5, 7, 5, 4, 7, 3, 7, 2, 2, 7, 6, 7, 4, 6];
+
+pub fn tet_corner(tet: usize, corner: usize) -> usize
+    requires { ⌜ (tet < 6) × (corner < 3) ⌝ }
+    ensures { λ r. ⌜ r ≡ tetCorner tet (suc corner) ⌝ }
+{
+    TET_CORNERS[3 * tet + corner] as usize
 }
 
 pub struct Ends {

@@ -30,25 +30,12 @@ use Rattle.tets.specs.Loop.{Coded}
 
 -- ---- the corners of the tetrahedra
 
-pub label-lt : (t i : ℕ) → t < 6 → i < 3 → tetLabel t i < 7
-unfolding all tetLabel
-label-lt t i ht hi = ltb→lt _ _ (all-at2 6 3 (λ t i. ltb (tetLabel t i) 7) tt t i ht hi)
-
 pub corner-lt : (t i : ℕ) → t < 6 → i < 4 → tetCorner t i < 8
 unfolding all tetCorner tetLabel cornerOf
 corner-lt t i ht hi = ltb→lt _ _ (all-at2 6 4 (λ t i. ltb (tetCorner t i) 8) tt t i ht hi)
 
--- a corner, by the label that leads to it
-corner-label : (t i : ℕ) → i < 3 → cornerOf (tetLabel t i) ≡ tetCorner t (suc i)
-unfolding tetCorner
-corner-label t zero h = refl
-corner-label t (suc zero) h = refl
-corner-label t (suc (suc zero)) h = refl
-corner-label t (suc (suc (suc i))) h = absurd (omega arith)
-
-pub corner-by : (t i l a : ℕ) → t < 6 → i < 3 → l ≡ tetLabel t i → a ≡ cornerOf l → (a < 8) × (a ≡ tetCorner t (suc i))
-corner-by t i l a ht hi e f =
-    let g : a ≡ tetCorner t (suc i) = f ∙ ap cornerOf e ∙ corner-label t i hi in (rw g (corner-lt t (suc i) ht (omega arith)), g)
+pub corner-by : (t i a : ℕ) → t < 6 → i < 3 → a ≡ tetCorner t (suc i) → a < 8
+corner-by t i a ht hi e = rw e (corner-lt t (suc i) ht (omega arith))
 
 first-corner : (t : ℕ) → tetCorner t 0 ≡ 0
 unfolding tetCorner

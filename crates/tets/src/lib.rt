@@ -90,9 +90,9 @@ fn case_at(codes: &[usize; 8], t: usize) -> usize
     requires { ⌜ Coded (now codes) × (t < 6) ⌝ }
     ensures { λ r. ⌜ r ≡ caseOn (now (codes .entry)) t ⌝ }
 {
-    let a = tables::label_corner(tables::tet_label(t, 0));
-    let b = tables::label_corner(tables::tet_label(t, 1));
-    let c = tables::label_corner(tables::tet_label(t, 2));
+    let a = tables::tet_corner(t, 0);
+    let b = tables::tet_corner(t, 1);
+    let c = tables::tet_corner(t, 2);
     case_by(codes[0], codes[a], codes[b], codes[c])
 }
 

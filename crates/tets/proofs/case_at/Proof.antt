@@ -2,67 +2,57 @@
 use native.Mathlib.Omega.{arith}
 use lib.Dec.{lit<}
 use Rattle.tets.specs.Samples.{caseOn}
-use Rattle.tets.proofs.Cases.{label-lt, corner-by}
+use Rattle.tets.proofs.Cases.{corner-by}
 use borrow.Author.Needs.{needs}
 use Rattle.tets.proofs.case_at.Statement.{statement}
 use Rattle.tets.proofs.case_at.Tie as tie
 
-tet-label-requires : tie.Need-tet-label-requires
-tet-label-requires c κs = search needs
+tet-corner-requires : tie.Need-tet-corner-requires
+tet-corner-requires c κs = search needs
 
-label-corner-requires : tie.Need-label-corner-requires
-label-corner-requires c κs = rw (c .tet-label .ensures) (label-lt (c .before .args .t) 0 (c .before .pre .1) (lit< tt))
+tet-corner-requires-2 : tie.Need-tet-corner-requires-2
+tet-corner-requires-2 c κs = search needs
 
-tet-label-requires-2 : tie.Need-tet-label-requires-2
-tet-label-requires-2 c κs = search needs
-
-label-corner-requires-2 : tie.Need-label-corner-requires-2
-label-corner-requires-2 c κs = rw (c .tet-label2 .ensures) (label-lt (c .before .before .before .args .t) 1 (c .before .before .before .pre .1) (lit< tt))
-
-tet-label-requires-3 : tie.Need-tet-label-requires-3
-tet-label-requires-3 c κs = search needs
-
-label-corner-requires-3 : tie.Need-label-corner-requires-3
-label-corner-requires-3 c κs = rw (c .tet-label3 .ensures) (label-lt (c .before .before .before .before .before .args .t) 2 (c .before .before .before .before .before .pre .1) (lit< tt))
+tet-corner-requires-3 : tie.Need-tet-corner-requires-3
+tet-corner-requires-3 c κs = search needs
 
 element-copy-out-case-by : tie.Need-element-copy-out-case-by
 element-copy-out-case-by c = search needs
 
 mul-case-by : tie.Need-mul-case-by
-mul-case-by c = omega (arith, corner-by (c .before .before .before .before .before .before .before .args .t) 0 _ _ (c .before .before .before .before .before .before .before .pre .1) (lit< tt) (c .before .before .before .before .before .before .tet-label .ensures) (c .before .before .before .before .before .label-corner .ensures))
+mul-case-by c = omega (arith, corner-by (c .before .before .before .before .args .t) 0 _ (c .before .before .before .before .pre .1) (lit< tt) (c .before .before .before .tet-corner .ensures))
 
 element-copy-out-case-by-2 : tie.Need-element-copy-out-case-by-2
-element-copy-out-case-by-2 c = corner-by (c .before .before .before .before .before .before .before .args .t) 0 _ _ (c .before .before .before .before .before .before .before .pre .1) (lit< tt) (c .before .before .before .before .before .before .tet-label .ensures) (c .before .before .before .before .before .label-corner .ensures) .0
+element-copy-out-case-by-2 c = corner-by (c .before .before .before .before .args .t) 0 _ (c .before .before .before .before .pre .1) (lit< tt) (c .before .before .before .tet-corner .ensures)
 
 mul-case-by-2 : tie.Need-mul-case-by-2
-mul-case-by-2 c = omega (arith, corner-by (c .before .before .before .before .before .before .before .before .args .t) 1 _ _ (c .before .before .before .before .before .before .before .before .pre .1) (lit< tt) (c .before .before .before .before .before .tet-label2 .ensures) (c .before .before .before .before .label-corner2 .ensures))
+mul-case-by-2 c = omega (arith, corner-by (c .before .before .before .before .before .args .t) 1 _ (c .before .before .before .before .before .pre .1) (lit< tt) (c .before .before .before .tet-corner2 .ensures))
 
 element-copy-out-case-by-3 : tie.Need-element-copy-out-case-by-3
-element-copy-out-case-by-3 c = corner-by (c .before .before .before .before .before .before .before .before .args .t) 1 _ _ (c .before .before .before .before .before .before .before .before .pre .1) (lit< tt) (c .before .before .before .before .before .tet-label2 .ensures) (c .before .before .before .before .label-corner2 .ensures) .0
+element-copy-out-case-by-3 c = corner-by (c .before .before .before .before .before .args .t) 1 _ (c .before .before .before .before .before .pre .1) (lit< tt) (c .before .before .before .tet-corner2 .ensures)
 
 mul-case-by-3 : tie.Need-mul-case-by-3
-mul-case-by-3 c = omega (arith, corner-by (c .before .before .before .before .before .before .before .before .before .args .t) 2 _ _ (c .before .before .before .before .before .before .before .before .before .pre .1) (lit< tt) (c .before .before .before .before .tet-label3 .ensures) (c .before .before .before .label-corner3 .ensures))
+mul-case-by-3 c = omega (arith, corner-by (c .before .before .before .before .before .before .args .t) 2 _ (c .before .before .before .before .before .before .pre .1) (lit< tt) (c .before .before .before .tet-corner3 .ensures))
 
 element-copy-out-case-by-4 : tie.Need-element-copy-out-case-by-4
-element-copy-out-case-by-4 c = corner-by (c .before .before .before .before .before .before .before .before .before .args .t) 2 _ _ (c .before .before .before .before .before .before .before .before .before .pre .1) (lit< tt) (c .before .before .before .before .tet-label3 .ensures) (c .before .before .before .label-corner3 .ensures) .0
+element-copy-out-case-by-4 c = corner-by (c .before .before .before .before .before .before .args .t) 2 _ (c .before .before .before .before .before .before .pre .1) (lit< tt) (c .before .before .before .tet-corner3 .ensures)
 
 case-by-requires : tie.Need-case-by-requires
-case-by-requires c κs = let small = c .before .before .before .before .before .before .before .before .before .before .pre .0 .small in (small 0 (lit< tt), small _ (corner-by (c .before .before .before .before .before .before .before .before .before .before .args .t) 0 _ _ (c .before .before .before .before .before .before .before .before .before .before .pre .1) (lit< tt) (c .before .before .before .before .before .before .before .before .before .tet-label .ensures) (c .before .before .before .before .before .before .before .before .label-corner .ensures) .0), small _ (corner-by (c .before .before .before .before .before .before .before .before .before .before .args .t) 1 _ _ (c .before .before .before .before .before .before .before .before .before .before .pre .1) (lit< tt) (c .before .before .before .before .before .before .before .tet-label2 .ensures) (c .before .before .before .before .before .before .label-corner2 .ensures) .0), small _ (corner-by (c .before .before .before .before .before .before .before .before .before .before .args .t) 2 _ _ (c .before .before .before .before .before .before .before .before .before .before .pre .1) (lit< tt) (c .before .before .before .before .before .tet-label3 .ensures) (c .before .before .before .before .label-corner3 .ensures) .0))
+case-by-requires c κs =
+    let small = c .before .before .before .before .before .before .before .pre .0 .small in
+    (small 0 (lit< tt), small _ (corner-by (c .before .before .before .before .before .before .before .args .t) 0 _ (c .before .before .before .before .before .before .before .pre .1) (lit< tt) (c .before .before .before .before .before .before .tet-corner .ensures)), small _ (corner-by (c .before .before .before .before .before .before .before .args .t) 1 _ (c .before .before .before .before .before .before .before .pre .1) (lit< tt) (c .before .before .before .before .before .tet-corner2 .ensures)), small _ (corner-by (c .before .before .before .before .before .before .before .args .t) 2 _ (c .before .before .before .before .before .before .before .pre .1) (lit< tt) (c .before .before .before .before .tet-corner3 .ensures)))
 
 returns : tie.Need-returns
 unfolding caseOn
-returns c = rw (← corner-by (c .before .before .before .before .before .before .before .before .before .before .before .args .t) 0 _ _ (c .before .before .before .before .before .before .before .before .before .before .before .pre .1) (lit< tt) (c .before .before .before .before .before .before .before .before .before .before .tet-label .ensures) (c .before .before .before .before .before .before .before .before .before .label-corner .ensures) .1, ← corner-by (c .before .before .before .before .before .before .before .before .before .before .before .args .t) 1 _ _ (c .before .before .before .before .before .before .before .before .before .before .before .pre .1) (lit< tt) (c .before .before .before .before .before .before .before .before .tet-label2 .ensures) (c .before .before .before .before .before .before .before .label-corner2 .ensures) .1, ← corner-by (c .before .before .before .before .before .before .before .before .before .before .before .args .t) 2 _ _ (c .before .before .before .before .before .before .before .before .before .before .before .pre .1) (lit< tt) (c .before .before .before .before .before .before .tet-label3 .ensures) (c .before .before .before .before .before .label-corner3 .ensures) .1) (c .case-by .ensures)
+returns c = rw (← c .before .before .before .before .before .before .before .tet-corner .ensures, ← c .before .before .before .before .before .before .tet-corner2 .ensures, ← c .before .before .before .before .before .tet-corner3 .ensures) (c .case-by .ensures)
 
 pub case-at-spec : {M : Type 1} → statement M
 case-at-spec =
     tie.close
     (tie.spec
-    tet-label-requires
-    label-corner-requires
-    tet-label-requires-2
-    label-corner-requires-2
-    tet-label-requires-3
-    label-corner-requires-3
+    tet-corner-requires
+    tet-corner-requires-2
+    tet-corner-requires-3
     element-copy-out-case-by
     mul-case-by
     element-copy-out-case-by-2
