@@ -15,6 +15,7 @@ use Rattle.laws.proofs.Lists.{all-keep, all-map, all-under}
 use Rattle.laws.proofs.Ranges.{any-one, each-all}
 use Rattle.laws.proofs.Sums.{sum-le}
 use Rattle.laws.proofs.Tails.{tail-at, tail-is}
+use Rattle.laws.proofs.Written.{front-take}
 use Rattle.tables.specs.Cases.{flat}
 use Rattle.lattice.specs.declared.Sides.{Sides}
 use Rattle.lattice.specs.Sites.{SidesFit, cells, sites}
@@ -45,7 +46,7 @@ use Rattle.build.specs.declared.Drawn.{Drawn}
 use Rattle.build.specs.declared.Rolled.{Rolled}
 use Rattle.build.specs.declared.Made.{Made}
 use Rattle.build.specs.Standing.{Finished, Lent, Paired, Parting, Placed, Settled, Standing, Stood}
-use Rattle.build.proofs.Standing.{front-take, mesh-room, stage-space, stands-again, stands-over, stands-same}
+use Rattle.build.proofs.Standing.{mesh-room, stage-space, stands-again, stands-over, stands-same}
 use Rattle.build.proofs.Passes.{place-longer}
 
 -- ---- no stage has fewer

@@ -13,6 +13,7 @@ use Rattle.laws.specs.Written.{Written}
 use Rattle.laws.proofs.Bools.{bit-one}
 use Rattle.laws.proofs.Ranges.{any-one}
 use Rattle.laws.proofs.Tails.{tail-is, tail-at}
+use Rattle.laws.proofs.Written.{front-take}
 use Rattle.tables.specs.Cases.{flat}
 use Rattle.lattice.specs.declared.Sides.{Sides}
 use Rattle.lattice.specs.Sites.{SidesFit, sites, cells}
@@ -32,7 +33,7 @@ use Rattle.vertices.specs.Appending.{Space}
 use Rattle.rollback.specs.Rolling.{Ready, Rolled, Rolling}
 use Rattle.build.specs.declared.Stand.{Stand}
 use Rattle.build.specs.Standing.{Lent, Stood, Turned}
-use Rattle.build.proofs.Standing.{front-take, mesh-room, stage-space, stands}
+use Rattle.build.proofs.Standing.{mesh-room, stage-space, stands}
 
 module _ (f : Frame) (n : Sides) (S : List Float) (h : Float) (at : Stand) (m t : List ℕ) (p : List Float) (k tr room : List ℕ) (L : Lent n S h m t p k tr room)
     (x : Stood f n S h at t p k tr) (c : ℕ) (ec : c ≡ cells n) where

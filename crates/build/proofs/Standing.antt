@@ -4,8 +4,8 @@ use mathlib.Core.Bool.{Bool}
 use mathlib.Core.List.{List}
 use Prim.Native.Nat.{ℕ, _+_, _*_, _≤_}
 use native.Mathlib.Omega.{arith}
-use lib.ListN.{length, take, drop}
-use lib.Seq.{sets, sets-eq, take-append-seam}
+use lib.ListN.{length}
+use lib.Seq.{sets}
 use lib.Ieee.{Float}
 use Rattle.laws.specs.Written.{Written}
 use Rattle.tables.specs.Cases.{Tri, flat}
@@ -55,11 +55,6 @@ module _ (n : Sides) (S : List Float) (h : Float) (cluster : Bool) (fit : SidesF
 pub cells-few : (n : Sides) → SidesFit n → cells n ≤ 32768
 unfolding cells
 cells-few n fit = cells-room n fit .1
-
--- the front of a list that begins with xs
-pub front-take : {A : Type 0} (xs l m : List A) (i : ℕ) → l ≡ sets m 0 xs → length xs ≤ length m → i ≡ length xs → take i l ≡ xs
-front-take xs l m i e h j =
-    (λ x. take (j x) (e x)) ∙ ap (take (length xs)) (sets-eq xs m 0 (omega arith)) ∙ take-append-seam xs (drop (0 + length xs) m)
 
 module _ (n : Sides) (S : List Float) (h : Float) (cluster : Bool) where
   -- THE MARCH OVER THE TABLE OF VERTICES IS THEIR MESH

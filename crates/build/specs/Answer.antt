@@ -139,3 +139,30 @@ trianglesAfter o l = written o (orderTriangles o) l
 
 unfoldable pub edgesAfter : Order → List ℕ → List ℕ
 edgesAfter o l = written o (orderEdges o) l
+
+-- ---- the six lists together
+
+pub record Lists : Type 0 where
+  pub masks : List ℕ
+  pub table : List ℕ
+  pub positions : List Float
+  pub book : List ℕ
+  pub triangles : List ℕ
+  pub edges : List ℕ
+
+abbrev pub lists : (masks table : List ℕ) (positions : List Float) (book triangles edges : List ℕ) → Lists
+lists m t p k tr e = record { masks = m; table = t; positions = p; book = k; triangles = tr; edges = e }
+
+abbrev pub lengthsOf : Lists → Lengths
+lengthsOf l = record {
+  masks = length (l .masks);
+  table = length (l .table);
+  vertices = length (l .positions);
+  book = length (l .book);
+  triangles = length (l .triangles);
+  edges = length (l .edges);
+}
+
+abbrev pub listsAfter : Order → Lists → Lists
+listsAfter o l =
+    lists (masksAfter o (l .masks)) (tableAfter o (l .table)) (positionsAfter o (l .positions)) (bookAfter o (l .book)) (trianglesAfter o (l .triangles)) (edgesAfter o (l .edges))

@@ -316,7 +316,8 @@ fn make(
     }
 }
 
-fn refused(status: usize) -> Answer
+// What is answered where nothing was built.
+pub fn refused(status: usize) -> Answer
     ensures { λ r. ⌜ r ≡ refusedAnswer status ⌝ }
 {
     Answer {

@@ -6,9 +6,9 @@ use native.Mathlib.Nat.{add-zero, add-assoc, suc-add, add-suc, suc-mul, le-antis
 use native.Mathlib.Numerals.{add-one}
 use native.Mathlib.Omega.{arith}
 use lib.ListN.{length, getD, set, take, drop, length-append, drop-of-length-le}
-use lib.Seq.{sets, sets-eq, length-sets, take-suc, take-length, length-take-le}
+use lib.Seq.{sets, sets-eq, length-sets, take-suc, take-length, take-append-seam, length-take-le}
 use Rattle.laws.specs.Ranges.{each}
-use Rattle.laws.specs.Written.{Written}
+use Rattle.laws.specs.Written.{Written, Within}
 use Rattle.laws.proofs.Ranges.{each-more, each-le}
 
 module _ {A : Type 0} where
@@ -47,6 +47,14 @@ module _ {A : Type 0} where
       let q : length l ≡ 0 + length vs = sym e ∙ p .next in
       let all : length l ≤ 0 + length vs = omega arith in
       written-plain p (omega arith) ∙ ap (λ (r : List A). vs ++ r) (drop-of-length-le l all) ∙ append-nil vs
+
+  -- the front of a list that begins with xs
+  pub front-take : (xs l m : List A) (i : ℕ) → l ≡ sets m 0 xs → length xs ≤ length m → i ≡ length xs → take i l ≡ xs
+  front-take xs l m i e h j =
+      (λ x. take (j x) (e x)) ∙ ap (take (length xs)) (sets-eq xs m 0 (omega arith)) ∙ take-append-seam xs (drop (0 + length xs) m)
+
+  pub within : (r : ℕ) (l : List A) → r ≤ length l → Within r l
+  within r l h = (h, sym (length-take-le r l h))
 
   -- ---- a loop that appends f 0, then f 1, ..
 

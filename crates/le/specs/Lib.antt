@@ -1,0 +1,2 @@
+-- Numbers as bytes.
+pub mod Bytes

@@ -1,0 +1,9 @@
+-- Laws of PLY files: the header, writing, reading, floats, and what the promises come to.
+pub mod Writing
+pub mod Heads
+pub mod Reading
+pub mod Answering
+pub mod Floats
+pub mod Files
+pub mod Promises
+pub mod Example
