@@ -1,57 +1,15 @@
 -- What the count program prints is determined by its input. Assumes nothing.
-use mathlib.Core.Path.{_≡_, refl, sym, ap, ap₂, subst, _∙_}
-use mathlib.Core.Bool.{Bool, true, false, true≢false}
-use mathlib.Core.List.{List, [], _∷_}
-use Prim.Native.Nat.{ℕ, zero, suc, _+_, _-_, _<_, _≤_}
+use mathlib.Core.Path.{_≡_, refl, ap₂}
+use mathlib.Core.List.{List}
+use Prim.Native.Nat.{ℕ, _<_}
 use native.Mathlib.Omega.{arith}
-use lib.Ieee.{Float, binary64, ofBits}
-use lib.ListN.{length, take, replicate, length-append, length-map}
+use lib.ListN.{length}
 use Rattle.laws.specs.Written.{Written}
 use Rattle.laws.proofs.Written.{written-unique}
-use Rattle.text.specs.declared.Parsed.{Parsed}
 use Rattle.text.specs.CountFile.{CountFile, headForm}
-use Rattle.text.specs.Parsed.{Accepted, parsedAs, ParsedOf}
 use Rattle.text.specs.Answer.{refusalText}
-use Rattle.text.proofs.Files.{file-unique, good-exactly, accepted-samples, file-longest}
-use Rattle.build.specs.Answer.{answerOf}
-use Rattle.count.specs.Count.{floatsOf, workOrder, printed, fileAnswer, Counted, file, none, Answered}
-
-take-floats : (k : ℕ) (l : List ℕ) → take k (floatsOf l) ≡ floatsOf (take k l)
-unfolding floatsOf
-take-floats zero l = refl
-take-floats (suc k) [] = refl
-take-floats (suc k) (x ∷ l) = ap (λ (r : List Float). ofBits binary64 x ∷ r) (take-floats k l)
-
--- ---- what was read, as the function has it
-
-pub read-room : (s : List ℕ) (p : Parsed) → ParsedOf s p → p .good ≡ true → p .sites ≤ length (floatsOf (p .samples))
-unfolding floatsOf
-read-room s p r e =
-    let a = good-exactly s p r .0 e in
-    let n = a .samples in
-    let h : p .sites ≡ length n = ap (λ (q : Parsed). q .sites) (a .is) in
-    let z : List ℕ = replicate (216 - length n) 0 in
-    let l : length (p .samples) ≡ length n + length z = ap (λ (q : Parsed). length (q .samples)) (a .is) ∙ length-append n z in
-    omega (arith, length-map (p .samples) (ofBits binary64))
-
-pub read-counted : (s : List ℕ) (p : Parsed) → ParsedOf s p → p .good ≡ true → Counted s (printed (p .sites) (answerOf (workOrder (p .head) (take (p .sites) (floatsOf (p .samples))))))
-unfolding fileAnswer
-read-counted s p r e = go (good-exactly s p r .0 e)
-  where
-    go : Accepted s p → Counted s (printed (p .sites) (answerOf (workOrder (p .head) (take (p .sites) (floatsOf (p .samples))))))
-    go a =
-        let n : p .sites ≡ length (a .samples) = ap (λ (q : Parsed). q .sites) (a .is) in
-        let l : take (p .sites) (floatsOf (p .samples)) ≡ floatsOf (a .samples) = take-floats (p .sites) (p .samples) ∙ ap floatsOf (accepted-samples s p a) in
-        subst (λ (t : List ℕ). Counted s t) (sym (ap₂ (λ (k : ℕ) (S : List Float). printed k (answerOf (workOrder (p .head) S))) n l)) (file (a .file))
-
-pub unread-counted : (s : List ℕ) (p : Parsed) → ParsedOf s p → p .good ≡ false → Counted s (refusalText 8)
-unread-counted s p r e = go (p .good) e r
-  where
-    go : (b : Bool) → b ≡ false → parsedAs b s p → Counted s (refusalText 8)
-    go true q a = absurd (true≢false q)
-    go false q a = none (a .none)
-
--- ---- it is determined
+use Rattle.text.proofs.Files.{file-unique, file-longest}
+use Rattle.count.specs.Count.{fileAnswer, Counted, file, none, Answered}
 
 pub counted-unique : {s t u : List ℕ} → Counted s t → Counted s u → t ≡ u
 counted-unique {s} (file {vs = vs} {ss = ss} f) (file {vs = ws} {ss = rs} g) =

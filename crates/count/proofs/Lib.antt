@@ -1,4 +1,5 @@
 -- Laws of the count program.
+pub mod Building
 pub mod Counts
 pub mod Status
 pub mod Example

@@ -9,10 +9,11 @@ use borrow.Author.Tests.{eq-eqb, eqb-true, le-leb}
 use lib.Dec.{eqb, leb}
 use lib.Ieee.{Float, binary64, ofBits}
 use lib.ListN.{length, getD, length-map, length-replicate}
-use lib.Seq.{length-sets, length-take-le}
 use Rattle.laws.specs.Bools.{bit}
 use Rattle.laws.specs.Ranges.{sum}
+use Rattle.laws.specs.Written.{Within}
 use Rattle.laws.proofs.Bools.{bit-le}
+use Rattle.laws.proofs.Written.{written-length, within}
 use Rattle.laws.proofs.Sums.{sum-le}
 use Rattle.lattice.specs.declared.Sides.{Sides}
 use Rattle.lattice.specs.Sites as box
@@ -28,7 +29,7 @@ use Rattle.text.specs.CountFile.{CountFile, sites, sample}
 use Rattle.text.specs.Answer.{answerText, refusalText}
 use Rattle.text.proofs.Lines.{fine-length}
 use Rattle.text.proofs.Printing.{answer-length, refusal-length}
-use Rattle.count.specs.Count.{headSides, headFrame, floatsOf, workOrder, countsOf, printed, fileAnswer, Counted, file, none, Answered, Within}
+use Rattle.count.specs.Count.{headSides, headFrame, floatsOf, fileOrder, workSpace, workOrder, countsOf, printed, fileAnswer, Counted, file, none, Answered}
 
 -- ---- room for 216 sites
 
@@ -61,15 +62,8 @@ pub record Ample (L : Lengths) : Type 0 where
   pub triangles : 7776 ≤ L .triangles
   pub edges : 23328 ≤ L .edges
 
-abbrev space : Lengths
-space = record { masks = 216; table = 1512; vertices = 6804; book = 9072; triangles = 7776; edges = 23328 }
-
-enough : Ample space
+enough : Ample workSpace
 enough = record { masks = omega arith; table = omega arith; vertices = omega arith; book = omega arith; triangles = omega arith; edges = omega arith }
-
--- the order of a file in lists of such lengths
-abbrev pub inSpace : List ℕ → List Float → Lengths → Order
-inSpace vs S L = order (headSides vs) (getD vs 3 0) (getD vs 4 0) (headFrame vs) S (L .masks) (L .table) (L .vertices) (L .book) (L .triangles) (L .edges)
 
 module _ {s vs ss : List ℕ} (f : CountFile s vs ss) where
   size : length ss ≡ sites vs
@@ -85,7 +79,7 @@ module _ {s vs ss : List ℕ} (f : CountFile s vs ss) where
   few = f .size .most
 
   -- the number in lists of any lengths that are long enough: 3 and 5 to 7 never come
-  space-status : (L : Lengths) → Ample L → status (inSpace vs (floatsOf ss) L)
+  space-status : (L : Lengths) → Ample L → status (fileOrder vs (floatsOf ss) L)
       ≡ cond (not (settingsOk (getD vs 3 0) (getD vs 4 0))) 1 (cond (not (box.sidesOk (headSides vs))) 2 (cond (not (frameOk (headFrame vs))) 4 0))
   unfolding statusOf siteRoom vertexRoom cellRoom
   space-status L a =
@@ -105,10 +99,10 @@ module _ {s vs ss : List ℕ} (f : CountFile s vs ss) where
 
   pub file-status : status (workOrder vs (floatsOf ss))
       ≡ cond (not (settingsOk (getD vs 3 0) (getD vs 4 0))) 1 (cond (not (box.sidesOk (headSides vs))) 2 (cond (not (frameOk (headFrame vs))) 4 0))
-  file-status = space-status space enough
+  file-status = space-status workSpace enough
 
   -- what the build answers does not depend on the work space
-  pub space-answer : (L : Lengths) → Ample L → answerOf (inSpace vs (floatsOf ss) L) ≡ answerOf (workOrder vs (floatsOf ss))
+  pub space-answer : (L : Lengths) → Ample L → answerOf (fileOrder vs (floatsOf ss) L) ≡ answerOf (workOrder vs (floatsOf ss))
   unfolding answerOf doneAnswer orderBox orderVertices orderCases
   space-answer L a =
       ap (λ (k : ℕ). cond (eqb k 0) (doneAnswer (workOrder vs (floatsOf ss))) (refusedAnswer k)) (space-status L a ∙ sym file-status)
@@ -153,7 +147,4 @@ shown-length frame = omega (arith, refusal-length 4)
 shown-length form = omega (arith, refusal-length 8)
 
 pub answered-within : {s l l′ : List ℕ} {r : ℕ} → length l ≡ 402 → Answered s l l′ r → Within r l′
-answered-within {l = l} {l′ = l′} {r = r} h a =
-    let n : length l′ ≡ length l = ap length (a .put .buf) ∙ length-sets l 0 (a .text) in
-    let f : r ≤ length l′ = omega (arith, a .put .next, shown-length (counted-shown (a .counted))) in
-    (f, sym (length-take-le r l′ f))
+answered-within {l′ = l′} {r = r} h a = within r l′ (omega (arith, a .put .next, written-length (a .put), shown-length (counted-shown (a .counted))))

@@ -1,19 +1,22 @@
--- What the count program prints for an input (document 01, "The count program"). Assumes nothing.
+-- What a count file asks for, what is built of it, and what the count program prints (document 01, "The count program"). Assumes nothing.
 use mathlib.Core.Path.{_≡_}
 use mathlib.Core.Bool.{cond}
 use mathlib.Core.List.{List, [], _∷_, map}
-use Prim.Native.Nat.{ℕ, _≤_}
+use Prim.Native.Nat.{ℕ}
 use lib.Dec.{eqb}
-use lib.ListN.{length, take, getD}
+use lib.ListN.{length, getD}
 use lib.Ieee.{Float, binary64, ofBits}
 use Rattle.laws.specs.Written.{Written}
 use Rattle.lattice.specs.declared.Sides.{Sides}
 use Rattle.points.specs.declared.Point.{Point}
 use Rattle.points.specs.declared.Frame.{Frame}
 use Rattle.build.specs.declared.Answer.{Answer}
-use Rattle.build.specs.Answer.{Order, order, answerOf}
+use Rattle.refusals.specs.declared.Lengths.{Lengths}
+use Rattle.build.specs.Answer.{Order, order, answerOf, refusedAnswer, Lists, lengthsOf, listsAfter}
 use Rattle.text.specs.CountFile.{CountFile}
+use Rattle.text.specs.Parsed.{accepted, refusal}
 use Rattle.text.specs.Answer.{answerText, refusalText}
+use Rattle.count.specs.declared.Built.{Built}
 
 -- ---- what the values of a file ask for; a header has nu, nv, nw, method, rounds, and the bits of three origins and three steps
 
@@ -29,9 +32,28 @@ headFrame vs = record { origin = pointOf (getD vs 5 0) (getD vs 6 0) (getD vs 7 
 unfoldable pub floatsOf : List ℕ → List Float
 floatsOf ss = map (ofBits binary64) ss
 
--- the build, in work space for 216 sites: a mask and seven owned edges each, three vertices for two of these edges, a cell each
+-- the order of a file in lists of such lengths
+abbrev pub fileOrder : List ℕ → List Float → Lengths → Order
+fileOrder vs S L = order (headSides vs) (getD vs 3 0) (getD vs 4 0) (headFrame vs) S (L .masks) (L .table) (L .vertices) (L .book) (L .triangles) (L .edges)
+
+-- lists for 216 sites: a mask and seven owned edges each, three vertices for two of these edges, a cell each
+abbrev pub workSpace : Lengths
+workSpace = record { masks = 216; table = 1512; vertices = 6804; book = 9072; triangles = 7776; edges = 23328 }
+
 abbrev pub workOrder : List ℕ → List Float → Order
-workOrder vs S = order (headSides vs) (getD vs 3 0) (getD vs 4 0) (headFrame vs) S 216 1512 6804 9072 7776 23328
+workOrder vs S = fileOrder vs S workSpace
+
+-- ---- what is built
+
+-- a build of the order o in the lists l, which l′ are afterwards
+pub record BuildOf (o : Order) (l l′ : Lists) (a : Answer) : Type 0 where
+  pub answer : a ≡ answerOf o
+  pub after : l′ ≡ listsAfter o l
+
+-- the input s, read and built in the lists l: as its values ask where s is a count file; status 8 and every list as it was where it is none
+pub data BuiltOf (s : List ℕ) (l l′ : Lists) (r : Built) : Type 0 where
+  built : (vs ss : List ℕ) → CountFile s vs ss → r .file ≡ accepted vs ss → BuildOf (fileOrder vs (floatsOf ss) (lengthsOf l)) l l′ (r .answer) → BuiltOf s l l′ r
+  unbuilt : ((vs ss : List ℕ) → CountFile s vs ss → ⊥) → r .file ≡ refusal → r .answer ≡ refusedAnswer 8 → l′ ≡ l → BuiltOf s l l′ r
 
 -- ---- what is printed
 
@@ -57,7 +79,3 @@ pub record Answered (s l l′ : List ℕ) (r : ℕ) : Type 0 where
   pub text : List ℕ
   pub counted : Counted s text
   pub put : Written l 0 text l′ r
-
--- r bytes are no more than l has; the second part follows from the first, and is what a caller's `&out[..r]` asks for
-abbrev pub Within : ℕ → List ℕ → Type 0
-Within r l = (r ≤ length l) × (r ≡ length (take r l))

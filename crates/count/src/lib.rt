@@ -1,14 +1,15 @@
-// The count program's work: the bytes of a count file in, the bytes of the answer out.
+// The count program's work: a count file read and built, and the bytes of the answer.
 use build::Answer;
 use lattice::Sides;
 use points::Frame;
 use points::Point;
+use text::Parsed;
 ghost use mathlib.Core.Path.{_≡_};
 ghost use Prim.Native.Nat.{_≤_};
 ghost use lib.ListN.{length};
-ghost use Rattle.laws.specs.Written.{Written};
-ghost use Rattle.build.specs.Answer.{answerOf};
-ghost use Rattle.count.specs.Count.{headSides, pointOf, headFrame, floatsOf, workOrder, countsOf, printed, Answered, Within};
+ghost use Rattle.laws.specs.Written.{Written, Within};
+ghost use Rattle.build.specs.Answer.{lists, lengthsOf};
+ghost use Rattle.count.specs.Count.{headSides, pointOf, headFrame, floatsOf, fileOrder, BuildOf, BuiltOf, countsOf, printed, Answered};
 
 // The sides of a header.
 pub fn sides_of(head: [u64; 11]) -> Sides
@@ -51,33 +52,66 @@ pub fn floats_of(bits: [u64; 216]) -> [f64; 216]
     r
 }
 
-// What the build answers, in work space for 216 sites.
-fn answer_of(head: [u64; 11], samples: &[f64]) -> Answer
-    ensures { λ r. ⌜ r ≡ answerOf (workOrder head (now (samples .entry))) ⌝ }
+// The build that a header and its samples ask for.
+fn build_head(
+    head: [u64; 11],
+    samples: &[f64],
+    masks: &mut [u16],
+    table: &mut [u32],
+    positions: &mut [f64],
+    book: &mut [u32],
+    triangles: &mut [u32],
+    edges: &mut [u32],
+) -> Answer
+    ensures { λ r. ⌜ BuildOf (fileOrder head (now (samples .entry)) (lengthsOf (lists (now (masks .entry)) (now (table .entry)) (now (positions .entry)) (now (book .entry)) (now (triangles .entry)) (now (edges .entry))))) (lists (now (masks .entry)) (now (table .entry)) (now (positions .entry)) (now (book .entry)) (now (triangles .entry)) (now (edges .entry))) (lists (now (masks .exit)) (now (table .exit)) (now (positions .exit)) (now (book .exit)) (now (triangles .exit)) (now (edges .exit))) r ⌝ }
 {
     let frame = frame_of(head);
     let n = sides_of(head);
     let method = head[3] as usize;
     let rounds = head[4] as usize;
-    let mut masks = [0u16; 216];
-    let mut table = [0u32; 1512];
-    let mut positions = [0.0; 6804];
-    let mut book = [0u32; 9072];
-    let mut tris = [0u32; 7776];
-    let mut edges = [0u32; 23328];
     build::build(
-        n,
-        method,
-        rounds,
-        frame,
-        samples,
-        &mut masks,
-        &mut table,
-        &mut positions,
-        &mut book,
-        &mut tris,
-        &mut edges,
+        n, method, rounds, frame, samples, masks, table, positions, book, triangles, edges,
     )
+}
+
+// What was read of an input, and what was built of it: `answer` has status 8 and zeros where the input is no count file.
+pub struct Built {
+    pub file: Parsed,
+    pub answer: Answer,
+}
+
+// The count file that is read, built in the six lists. Where the input is no count file, or is refused, they stay as they were.
+pub fn build_file(
+    input: &[u8],
+    masks: &mut [u16],
+    table: &mut [u32],
+    positions: &mut [f64],
+    book: &mut [u32],
+    triangles: &mut [u32],
+    edges: &mut [u32],
+) -> Built
+    ensures { λ r. ⌜ BuiltOf (now (input .entry)) (lists (now (masks .entry)) (now (table .entry)) (now (positions .entry)) (now (book .entry)) (now (triangles .entry)) (now (edges .entry))) (lists (now (masks .exit)) (now (table .exit)) (now (positions .exit)) (now (book .exit)) (now (triangles .exit)) (now (edges .exit))) r ⌝ }
+{
+    let file = text::read_file(input);
+    if file.good {
+        let head = file.head;
+        let bits = file.samples;
+        let k = file.sites;
+        let samples = floats_of(bits);
+        let answer = build_head(
+            head,
+            &samples[..k],
+            masks,
+            table,
+            positions,
+            book,
+            triangles,
+            edges,
+        );
+        return Built { file, answer };
+    }
+    let answer = build::refused(8);
+    Built { file, answer }
 }
 
 // The eleven counts in the order in which they are printed.
@@ -99,8 +133,8 @@ fn counts_of(k: usize, a: Answer) -> [u64; 11]
     ]
 }
 
-// The answer of a build over k sites, as text.
-fn print(out: &mut [u8], k: usize, a: Answer) -> usize
+// The answer of a build over k sites, as text, put at the front of `out`. It never takes more than 402 bytes.
+pub fn print(out: &mut [u8], k: usize, a: Answer) -> usize
     requires { ⌜ 402 ≤ length (now out) ⌝ }
     ensures { λ r. ⌜ Written (now (out .entry)) 0 (printed k a) (now (out .exit)) r ⌝ }
 {
@@ -117,14 +151,22 @@ pub fn count_text(input: &[u8], out: &mut [u8; 402]) -> usize
     ensures { λ r. ⌜ Answered (now (input .entry)) (now (out .entry)) (now (out .exit)) r ⌝ }
     ensures { λ r. ⌜ Within r (now (out .exit)) ⌝ }
 {
-    let p = text::read_file(input);
-    if p.good {
-        let head = p.head;
-        let bits = p.samples;
-        let k = p.sites;
-        let samples = floats_of(bits);
-        let a = answer_of(head, &samples[..k]);
-        return print(out, k, a);
-    }
-    text::print_refusal(out, 0, 8)
+    let mut masks = [0u16; 216];
+    let mut table = [0u32; 1512];
+    let mut positions = [0.0; 6804];
+    let mut book = [0u32; 9072];
+    let mut triangles = [0u32; 7776];
+    let mut edges = [0u32; 23328];
+    let built = build_file(
+        input,
+        &mut masks,
+        &mut table,
+        &mut positions,
+        &mut book,
+        &mut triangles,
+        &mut edges,
+    );
+    let file = built.file;
+    let answer = built.answer;
+    print(out, file.sites, answer)
 }
