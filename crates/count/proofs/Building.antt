@@ -43,15 +43,17 @@ take-floats zero l = refl
 take-floats (suc k) [] = refl
 take-floats (suc k) (x ∷ l) = ap (λ (r : List Float). ofBits binary64 x ∷ r) (take-floats k l)
 
-pub read-room : (s : List ℕ) (p : Parsed) → ParsedOf s p → p .good ≡ true → p .sites ≤ length (floatsOf (p .samples))
+accepted-room : (s : List ℕ) (p : Parsed) → Accepted s p → p .sites ≤ length (floatsOf (p .samples))
 unfolding floatsOf
-read-room s p r e =
-    let a = good-exactly s p r .0 e in
+accepted-room s p a =
     let n = a .samples in
     let h : p .sites ≡ length n = ap (λ (q : Parsed). q .sites) (a .is) in
     let z : List ℕ = replicate (216 - length n) 0 in
     let l : length (p .samples) ≡ length n + length z = ap (λ (q : Parsed). length (q .samples)) (a .is) ∙ length-append n z in
     omega (arith, length-map (p .samples) (ofBits binary64))
+
+pub read-room : (s : List ℕ) (p : Parsed) → ParsedOf s p → p .good ≡ true → p .sites ≤ length (floatsOf (p .samples))
+read-room s p r e = accepted-room s p (good-exactly s p r .0 e)
 
 module _ (s : List ℕ) (p : Parsed) (r : ParsedOf s p) (l l′ : Lists) (b : Answer) where
   pub read-built : p .good ≡ true → BuildOf (fileOrder (p .head) (take (p .sites) (floatsOf (p .samples))) (lengthsOf l)) l l′ b → BuiltOf s l l′ (record { file = p; answer = b })
@@ -81,6 +83,30 @@ built-unique {s} {l} {r = r} {q = q} (built vs ss f e b) (built ws rs g d c) =
 built-unique (built vs ss f e b) (unbuilt z d a k) = absurd (z vs ss f)
 built-unique (unbuilt z d a k) (built vs ss f e b) = absurd (z vs ss f)
 built-unique (unbuilt z d a k) (unbuilt y e b h) = (k ∙ sym h, λ i. record { file = (d ∙ sym e) i; answer = (a ∙ sym b) i })
+
+-- ---- what was built, by what was read
+
+module _ {s : List ℕ} {l l′ : Lists} {r : Built} where
+  built-accepted : BuiltOf s l l′ r → (r .answer .status ≡ 8 → ⊥) → Accepted s (r .file)
+  unfolding refusedAnswer
+  built-accepted (built vs ss f e b) z =
+      let h : vs ≡ r .file .head = sym (ap (λ (p : Parsed). p .head) e) in
+      record { samples = ss; file = rw h at f; is = e ∙ ap (λ (v : List ℕ). accepted v ss) h }
+  built-accepted (unbuilt n d a k) z = absurd (z (ap (λ (x : Answer). x .status) a))
+
+  pub built-room : BuiltOf s l l′ r → (r .answer .status ≡ 8 → ⊥) → r .file .sites ≤ length (floatsOf (r .file .samples))
+  built-room b z = accepted-room s (r .file) (built-accepted b z)
+
+  pub built-read : BuiltOf s l l′ r → (r .answer .status ≡ 8 → ⊥)
+      → BuildOf (fileOrder (r .file .head) (take (r .file .sites) (floatsOf (r .file .samples))) (lengthsOf l)) l l′ (r .answer)
+  unfolding refusedAnswer
+  built-read (built vs ss f e b) z =
+      let h : vs ≡ r .file .head = sym (ap (λ (p : Parsed). p .head) e) in
+      let a : Accepted s (r .file) = built-accepted (built vs ss f e b) z in
+      let u : ss ≡ a .samples = file-unique headForm s vs ss (r .file .head) (a .samples) f (a .file) .1 in
+      let q : floatsOf ss ≡ take (r .file .sites) (floatsOf (r .file .samples)) = ap floatsOf (u ∙ sym (accepted-samples s (r .file) a)) ∙ sym (take-floats (r .file .sites) (r .file .samples)) in
+      subst (λ (o : Order). BuildOf o l l′ (r .answer)) (ap₂ (λ (v : List ℕ) (S : List Float). fileOrder v S (lengthsOf l)) h q) b
+  built-read (unbuilt n d a k) z = absurd (z (ap (λ (x : Answer). x .status) a))
 
 -- ---- what is printed of it
 

@@ -8,6 +8,7 @@ ghost use Prim.Native.Nat.{_<_, _≤_};
 ghost use lib.ListN.{length};
 ghost use Rattle.lattice.specs.Sites.{sites};
 ghost use Rattle.marks.specs.Loops.{Sampled};
+ghost use Rattle.count.specs.Count.{headSides};
 
 const NONE: u32 = 0xFFFF_FFFF;
 
@@ -219,23 +220,36 @@ fn show_sites(n: Sides, samples: &[f64], masks: &[u16], cluster: bool)
     show_tets(n, samples);
 }
 
-fn dump(head: [u64; 11], samples: &[f64]) {
-    let frame = count::frame_of(head);
+// All that a build has left, of a file of k sites.
+fn dump(
+    head: [u64; 11],
+    samples: &[f64],
+    a: Answer,
+    masks: &[u16],
+    table: &[u32],
+    positions: &[f64],
+    book: &[u32],
+    tris: &[u32],
+)
+    requires { ⌜ Sampled (headSides head) (now samples) × (length (now samples) ≤ sites (headSides head)) ⌝ }
+{
     let n = count::sides_of(head);
-    let method = head[3] as usize;
-    let rounds = head[4] as usize;
+    let e = least(7 * least(samples.len(), 216), table.len());
+    show_sites(n, samples, masks, head[3] == 1);
+    show_lists(a, &table[..e], positions, book, tris);
+}
+
+fn main() {
+    let mut input = [0u8; 8192];
+    let n = io::read_full(STDIN_FILENO, &mut input);
     let mut masks = [0u16; 216];
     let mut table = [0u32; 1512];
     let mut positions = [0.0; 6804];
     let mut book = [0u32; 9072];
     let mut tris = [0u32; 7776];
     let mut edges = [0u32; 23328];
-    let a = build::build(
-        n,
-        method,
-        rounds,
-        frame,
-        samples,
+    let built = count::build_file(
+        &input[..n],
         &mut masks,
         &mut table,
         &mut positions,
@@ -243,26 +257,25 @@ fn dump(head: [u64; 11], samples: &[f64]) {
         &mut tris,
         &mut edges,
     );
-    if a.status != 0 {
-        return;
-    }
-    let e = 7 * least(samples.len(), 216);
-    show_sites(n, samples, &masks, method == 1);
-    show_lists(a, &table[..e], &positions, &book, &tris);
-}
-
-fn main() {
-    let mut input = [0u8; 8192];
-    let n = io::read_full(STDIN_FILENO, &mut input);
+    let file = built.file;
+    let answer = built.answer;
     let mut out = [0u8; 402];
-    let k = count::count_text(&input[..n], &mut out);
+    let k = least(count::print(&mut out, file.sites, answer), 402);
     io::write_all(STDOUT_FILENO, &out[..k]);
-    let p = text::read_file(&input[..n]);
-    if p.good {
-        let head = p.head;
-        let bits = p.samples;
-        let m = least(p.sites, 216);
+    if answer.status == 0 {
+        let head = file.head;
+        let bits = file.samples;
+        let m = file.sites;
         let samples = count::floats_of(bits);
-        dump(head, &samples[..m]);
+        dump(
+            head,
+            &samples[..m],
+            answer,
+            &masks,
+            &table,
+            &positions,
+            &book,
+            &tris,
+        );
     }
 }

@@ -1,9 +1,27 @@
 -- `dump_main::main` is safe. Assumes nothing.
 use borrow.Author.Needs.{needs}
-use mathlib.Core.Path.{sym}
+use native.Mathlib.Omega.{arith}
+use mathlib.Core.Path.{_≡_, sym, ap, _∙_}
+use native.Mathlib.Nat.{le-of-eq}
+use Prim.Native.Nat.{_≤_}
+use lib.ListN.{length}
 use lib.Seq.{length-take-le}
+use Rattle.lattice.specs.Sites.{sites}
+use Rattle.marks.specs.Loops.{Sampled}
+use Rattle.refusals.proofs.Granted.{granted}
+use Rattle.build.specs.declared.Answer.{Answer}
+use Rattle.build.specs.Answer.{Order, Lists}
+use Rattle.count.specs.Count.{BuildOf}
+use Rattle.count.proofs.Building.{built-room, built-read}
+use Rattle.count.proofs.Status.{answer-status}
 use Rattle.dump_main.proofs.main.Statement.{statement}
 use Rattle.dump_main.proofs.main.Tie as tie
+
+-- a build that is done has a sample for each site
+sampled : (o : Order) (l l′ : Lists) (a : Answer) → BuildOf o l l′ a → a .status ≡ 0 → Sampled (o .sides) (o .samples) × (length (o .samples) ≤ sites (o .sides))
+sampled o l l′ a b z =
+    let g = granted (o .sides) (o .method) (o .rounds) (o .frame) (o .samples) (o .lent) (o .threshold) (sym (answer-status o) ∙ ap (λ (x : Answer). x .status) (sym (b .answer)) ∙ z) in
+    (record { fit = g .fit; samples = le-of-eq (sym (g .samples)) }, le-of-eq (g .samples))
 
 slice-aggregate-read-full : tie.Need-slice-aggregate-read-full
 slice-aggregate-read-full c = search needs
@@ -14,44 +32,81 @@ read-full-requires c κs = search needs
 array-share-prefix-input : tie.Need-array-share-prefix-input
 array-share-prefix-input c = search needs
 
-slice-aggregate-count-text : tie.Need-slice-aggregate-count-text
-slice-aggregate-count-text c = search needs
+slice-aggregate-build-file : tie.Need-slice-aggregate-build-file
+slice-aggregate-build-file c = search needs
 
-count-text-requires : tie.Need-count-text-requires
-count-text-requires c κs = search needs
+slice-aggregate-build-file-2 : tie.Need-slice-aggregate-build-file-2
+slice-aggregate-build-file-2 c = search needs
+
+slice-aggregate-build-file-3 : tie.Need-slice-aggregate-build-file-3
+slice-aggregate-build-file-3 c = search needs
+
+slice-aggregate-build-file-4 : tie.Need-slice-aggregate-build-file-4
+slice-aggregate-build-file-4 c = search needs
+
+slice-aggregate-build-file-5 : tie.Need-slice-aggregate-build-file-5
+slice-aggregate-build-file-5 c = search needs
+
+slice-aggregate-build-file-6 : tie.Need-slice-aggregate-build-file-6
+slice-aggregate-build-file-6 c = search needs
+
+slice-aggregate-build-file-7 : tie.Need-slice-aggregate-build-file-7
+slice-aggregate-build-file-7 c = search needs
+
+build-file-requires : tie.Need-build-file-requires
+build-file-requires c κs = search needs
+
+slice-aggregate-print : tie.Need-slice-aggregate-print
+slice-aggregate-print c = search needs
+
+print-requires : tie.Need-print-requires
+print-requires c κs = search needs
+
+least-requires : tie.Need-least-requires
+least-requires c κs = search needs
 
 array-share-prefix-out : tie.Need-array-share-prefix-out
 array-share-prefix-out c = search needs
 
 slice-aggregate-write-all : tie.Need-slice-aggregate-write-all
-slice-aggregate-write-all c = search needs
+slice-aggregate-write-all c = sym (length-take-le _ _ (array-share-prefix-out (c .before)))
 
 write-all-requires : tie.Need-write-all-requires
 write-all-requires c κs = search needs
-
-array-share-prefix-input-2 : tie.Need-array-share-prefix-input-2
-array-share-prefix-input-2 c = search needs
-
-slice-aggregate-read-file : tie.Need-slice-aggregate-read-file
-slice-aggregate-read-file c = search needs
-
-read-file-requires : tie.Need-read-file-requires
-read-file-requires c κs = search needs
-
-least-requires : tie.Need-least-requires
-least-requires c κs = search needs
 
 floats-of-requires : tie.Need-floats-of-requires
 floats-of-requires c κs = search needs
 
 array-share-prefix-samples : tie.Need-array-share-prefix-samples
-array-share-prefix-samples c = search needs
+array-share-prefix-samples c =
+    let t = c .before .before .before in
+    let b = t .before .before .before .before .before .before .before .before .before .before .before .before .before .before .before .before in
+    rw (c .floats-of .ensures) (built-room (b .build-file .ensures) (λ e. omega (arith, e, t .if1 .taken)))
 
 slice-aggregate-dump : tie.Need-slice-aggregate-dump
 slice-aggregate-dump c = sym (length-take-le _ _ (array-share-prefix-samples (c .before)))
 
+slice-aggregate-dump-2 : tie.Need-slice-aggregate-dump-2
+slice-aggregate-dump-2 c = search needs
+
+slice-aggregate-dump-3 : tie.Need-slice-aggregate-dump-3
+slice-aggregate-dump-3 c = search needs
+
+slice-aggregate-dump-4 : tie.Need-slice-aggregate-dump-4
+slice-aggregate-dump-4 c = search needs
+
+slice-aggregate-dump-5 : tie.Need-slice-aggregate-dump-5
+slice-aggregate-dump-5 c = search needs
+
+slice-aggregate-dump-6 : tie.Need-slice-aggregate-dump-6
+slice-aggregate-dump-6 c = search needs
+
 dump-requires : tie.Need-dump-requires
-dump-requires c κs = search needs
+dump-requires c κs =
+    let f = c .before .before .before .before .before .before in
+    let t = f .before .before .before in
+    let b = t .before .before .before .before .before .before .before .before .before .before .before .before .before .before .before .before in
+    rw (f .floats-of .ensures) (sampled _ _ _ _ (built-read (b .build-file .ensures) (λ e. omega (arith, e, t .if1 .taken))) (t .if1 .taken))
 
 returns : tie.Need-returns
 returns c = search needs
@@ -66,18 +121,28 @@ main-spec =
     slice-aggregate-read-full
     read-full-requires
     array-share-prefix-input
-    slice-aggregate-count-text
-    count-text-requires
+    slice-aggregate-build-file
+    slice-aggregate-build-file-2
+    slice-aggregate-build-file-3
+    slice-aggregate-build-file-4
+    slice-aggregate-build-file-5
+    slice-aggregate-build-file-6
+    slice-aggregate-build-file-7
+    build-file-requires
+    slice-aggregate-print
+    print-requires
+    least-requires
     array-share-prefix-out
     slice-aggregate-write-all
     write-all-requires
-    array-share-prefix-input-2
-    slice-aggregate-read-file
-    read-file-requires
-    least-requires
     floats-of-requires
     array-share-prefix-samples
     slice-aggregate-dump
+    slice-aggregate-dump-2
+    slice-aggregate-dump-3
+    slice-aggregate-dump-4
+    slice-aggregate-dump-5
+    slice-aggregate-dump-6
     dump-requires
     returns
     returns-2)
