@@ -1,0 +1,113 @@
+// A program's bytes: all of its input, from standard input or from the file that its one argument names, and its answer in one go. What fails is said
+// on standard error.
+use libc::STDERR_FILENO;
+use libc::STDIN_FILENO;
+use libc::STDOUT_FILENO;
+ghost use Prim.Native.Nat.{_≤_};
+ghost use lib.ListN.{length};
+ghost use Rattle.io.specs.Counts.{Counts};
+
+// How many bytes were put at the front of a buffer, and whether that went well.
+pub struct Taken {
+    pub ok: bool,
+    pub length: usize,
+}
+
+// One read. No bytes and ok: the input has ended.
+fn take_some(fd: i32, part: &mut [u8]) -> Taken
+    ensures { λ r. ⌜ r .length ≤ length (now (part .exit)) ⌝ }
+{
+    let got = libc::read(fd, part);
+    Taken {
+        ok: got >= 0,
+        length: io::count(got, part),
+    }
+}
+
+// To the end of the input; whether it was reached. A proved loop has to end, and nothing says that an input does, so it counts down from a number
+// that no run uses up.
+fn drop_rest(fd: i32) -> bool {
+    let mut space = io::large_buffer();
+    let mut turns = u64::MAX;
+    while turns > 0 {
+        let some = take_some(fd, &mut space);
+        if some.length == 0 {
+            return some.ok;
+        }
+        turns -= 1;
+    }
+    false
+}
+
+// All bytes of fd. What has no room is read all the same, and dropped.
+fn take_all(fd: i32, space: &mut [u8]) -> Taken
+    ensures { λ r. ⌜ Counts (r .length) (now (space .exit)) ⌝ }
+{
+    let mut at = 0usize;
+    while at < space.len() {
+        let some = take_some(fd, &mut space[at..]);
+        if some.length == 0 {
+            return Taken {
+                ok: some.ok,
+                length: at,
+            };
+        }
+        at += some.length;
+    }
+    Taken {
+        ok: drop_rest(fd),
+        length: at,
+    }
+}
+
+// The file that argument 1 names, open; or -1.
+fn open_named() -> i32 {
+    let mut path = io::buffer();
+    let n = os::arg(1, &mut path);
+    let fd = os::open_read(&path[..n]);
+    if fd < 0 {
+        os::fail(&path[..n]);
+    }
+    fd
+}
+
+fn open(usage: &[u8]) -> i32 {
+    let words = os::arg_count();
+    if words > 2 {
+        io::write_all(STDERR_FILENO, usage);
+        return -1;
+    }
+    if words == 2 {
+        return open_named();
+    }
+    STDIN_FILENO
+}
+
+// The program's input, at the front of `space`. Where it is longer, its first bytes. Not ok where it could not be read to its end: then no answer about it
+// is to be given.
+pub fn read(usage: &[u8], space: &mut [u8]) -> Taken
+    ensures { λ r. ⌜ Counts (r .length) (now (space .exit)) ⌝ }
+{
+    let fd = open(usage);
+    if fd < 0 {
+        return Taken {
+            ok: false,
+            length: 0,
+        };
+    }
+    let taken = take_all(fd, space);
+    if taken.ok {
+        return taken;
+    }
+    os::fail(b"the input");
+    taken
+}
+
+// The program's answer; whether all of it was written.
+pub fn write(answer: &[u8]) -> bool {
+    if io::write_all(STDOUT_FILENO, answer) {
+        return true;
+    }
+    os::fail(b"the answer");
+    false
+}
