@@ -7,3 +7,4 @@ pub mod Making
 pub mod Masks
 pub mod Answering
 pub mod Unique
+pub mod Fronts

@@ -5,7 +5,7 @@ use mathlib.Core.List.{List}
 use Prim.Native.Nat.{ℕ, zero, suc, _-_, _*_, _≤_}
 use native.Mathlib.Omega.{arith}
 use native.Mathlib.Nat.{le-trans}
-use borrow.Author.Tests.{eq-eqb, eqb-true, le-leb}
+use borrow.Author.Tests.{eq-eqb, le-leb}
 use lib.Dec.{eqb, leb}
 use lib.Ieee.{Float, binary64, ofBits}
 use lib.ListN.{length, getD, length-map, length-replicate}
@@ -25,6 +25,7 @@ use Rattle.refusals.specs.declared.Lengths.{Lengths}
 use Rattle.refusals.specs.Refusals.{settingsOk, siteRoom, vertexRoom, cellRoom, most, statusOf}
 use Rattle.build.specs.declared.Answer.{Answer}
 use Rattle.build.specs.Answer.{Order, order, status, orderBox, orderVertices, orderCases, doneAnswer, refusedAnswer, answerOf}
+use Rattle.build.proofs.Fronts.{answer-status}
 use Rattle.text.specs.CountFile.{CountFile, sites, sample}
 use Rattle.text.specs.Answer.{answerText, refusalText}
 use Rattle.text.proofs.Lines.{fine-length}
@@ -116,14 +117,6 @@ pub data Shown : List ℕ → Type 0 where
   sides : Shown (refusalText 2)
   frame : Shown (refusalText 4)
   form : Shown (refusalText 8)
-
-pub answer-status : (o : Order) → answerOf o .status ≡ status o
-unfolding answerOf doneAnswer refusedAnswer
-answer-status o = go (eqb (status o) 0) refl
-  where
-    go : (b : Bool) → eqb (status o) 0 ≡ b → (cond b (doneAnswer o) (refusedAnswer (status o))) .status ≡ status o
-    go true e = sym (eqb-true (status o) 0 e)
-    go false e = refl
 
 shown : (k : ℕ) (a : Answer) (x y z : Bool) → a .status ≡ cond (not x) 1 (cond (not y) 2 (cond (not z) 4 0)) → Shown (printed k a)
 unfolding printed countsOf

@@ -1,12 +1,11 @@
 -- Demand 3 of the lists that a build leaves: every crossed edge is named once by the edge table, the held counts of the vertex book add up to the crossings,
 -- and as many triangles of the triangle list run from a vertex to another as back. Assumes nothing.
 use mathlib.Core.Path.{_≡_, refl, sym, ap, _∙_}
-use mathlib.Core.Bool.{Bool, true, cond}
+use mathlib.Core.Bool.{Bool, true}
 use mathlib.Core.List.{List, [], _∷_, _++_}
 use Prim.Native.Nat.{ℕ, _+_, _*_, _<_}
 use native.Mathlib.Omega.{arith}
 use lib.Dec.{eqb}
-use borrow.Author.Tests.{eq-eqb}
 use lib.ListN.{length, getD, take, drop, List·getD-append}
 use lib.Seq.{take-append-seam}
 use Rattle.laws.specs.Ranges.{sum}
@@ -27,8 +26,9 @@ use Rattle.stages.proofs.Demand.{book-crossed, crossed-held, table-names}
 use Rattle.stages.proofs.Stages.{built-stage}
 use Rattle.stages.proofs.Table.{table-length}
 use Rattle.build.specs.declared.Answer.{Answer}
-use Rattle.build.specs.Answer.{Order, answerOf, bookAfter, doneAnswer, orderBook, orderBox, orderTable, orderTriangles, orderVertices, refusedAnswer, status, tableAfter, trianglesAfter}
+use Rattle.build.specs.Answer.{Order, bookAfter, doneAnswer, orderBook, orderBox, orderTable, orderTriangles, orderVertices, tableAfter, trianglesAfter}
 use Rattle.build.proofs.Answering.{order-granted}
+use Rattle.build.proofs.Fronts.{is-done, is-written}
 use Rattle.surface.specs.Border.{OneSide}
 use Rattle.surface.specs.Left.{Left}
 use Rattle.surface.proofs.Surface.{built-closed}
@@ -50,23 +50,19 @@ module _ (o : Order) (t k tr : List ℕ) (z : Answer) (t′ k′ tr′ : List �
   fit = order-granted o (D .granted) .fit
 
   done : z ≡ doneAnswer o
-  unfolding answerOf
-  done = D .answer ∙ ap (λ (c : Bool). cond c (doneAnswer o) (refusedAnswer (status o))) (eq-eqb (status o) 0 (D .granted))
-
-  given : {A : Type 0} (xs l : List A) → cond (eqb (status o) 0) (xs ++ drop (length xs) l) l ≡ xs ++ drop (length xs) l
-  given xs l = ap (λ (c : Bool). cond c (xs ++ drop (length xs) l) l) (eq-eqb (status o) 0 (D .granted))
+  done = D .answer ∙ is-done o (D .granted)
 
   book-is : k′ ≡ orderBook o ++ drop (length (orderBook o)) k
   unfolding bookAfter
-  book-is = D .book ∙ given (orderBook o) k
+  book-is = D .book ∙ is-written o (D .granted) (orderBook o) k
 
   table-is : t′ ≡ orderTable o ++ drop (length (orderTable o)) t
   unfolding tableAfter
-  table-is = D .table ∙ given (orderTable o) t
+  table-is = D .table ∙ is-written o (D .granted) (orderTable o) t
 
   triangles-are : tr′ ≡ orderTriangles o ++ drop (length (orderTriangles o)) tr
   unfolding trianglesAfter
-  triangles-are = D .triangles ∙ given (orderTriangles o) tr
+  triangles-are = D .triangles ∙ is-written o (D .granted) (orderTriangles o) tr
 
   -- THE HELD COUNTS OF THE BOOK ADD UP TO THE CROSSINGS
   pub left-held : sum (z .vertices) (λ i. getD k′ (4 * i + 1) 0) ≡ crossedCount (o .sides) (o .samples) (o .threshold)

@@ -11,9 +11,9 @@ use Rattle.marks.specs.Loops.{Sampled}
 use Rattle.refusals.proofs.Granted.{granted}
 use Rattle.build.specs.declared.Answer.{Answer}
 use Rattle.build.specs.Answer.{Order, Lists}
+use Rattle.build.proofs.Fronts.{answer-status}
 use Rattle.count.specs.Count.{BuildOf}
 use Rattle.count.proofs.Building.{built-room, built-read}
-use Rattle.count.proofs.Status.{answer-status}
 use Rattle.dump_main.proofs.main.Statement.{statement}
 use Rattle.dump_main.proofs.main.Tie as tie
 

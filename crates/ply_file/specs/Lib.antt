@@ -1,0 +1,2 @@
+-- What the promise of this crate cites: the PLY text for a count file.
+pub mod Text
