@@ -1,6 +1,7 @@
 // The count file of document 01: read, refuse, answer, print; and the dump of FORMAT.md. All ours.
 
 use crate::isosurface::{build, Answer, Input};
+use crate::ply;
 use std::fmt::Write;
 
 /// The most sites a count file may have.
@@ -176,6 +177,14 @@ pub fn answer_text(bytes: &[u8], dump: bool, unbounded: bool) -> String {
     out
 }
 
+/// The PLY file of the mesh, or the line `status=` where the count program would refuse.
+pub fn answer_ply(bytes: &[u8], unbounded: bool) -> Vec<u8> {
+    match run(bytes, unbounded, false) {
+        (_, Some((_, answer))) => ply::file(&answer.positions, &answer.triangles),
+        (status, None) => format!("status={status}\n").into_bytes(),
+    }
+}
+
 fn dump_to(out: &mut String, answer: &Answer) {
     for (site, mask) in answer.masks.iter().enumerate().filter(|(_, &m)| m != 0) {
         let _ = writeln!(out, "mask {site} {mask:04x}");
@@ -218,11 +227,16 @@ pub fn topology_text(case: usize, clusters: &[u16]) -> String {
 }
 
 /// The bits of a float; every NaN as the same one.
-pub fn float_text(x: f64) -> String {
+pub fn float_bits(x: f64) -> u64 {
     if x.is_nan() {
-        return "7ff8000000000000".to_string();
+        return 0x7ff8000000000000;
     }
-    format!("{:016x}", x.to_bits())
+    x.to_bits()
+}
+
+/// Their 16 hex digits.
+pub fn float_text(x: f64) -> String {
+    format!("{:016x}", float_bits(x))
 }
 
 /// A count file of the form.

@@ -19,8 +19,8 @@
 //   Shims: rayon's par_iter and par_chunks in order; curvature weights never called; progress and messages dropped.
 //   The vertex book: read off the Rust's edge table after each pass, and off the masks.
 //   The call of test_topology for the dump (the build makes its own calls).
-//   The count file, its refusals, what is printed, the checks of each answer (countfile.rs), the generator
-//     (generate.rs), the search (search.rs), and the commands below.
+//   The count file, its refusals, what is printed, the checks of each answer (countfile.rs), the PLY file (ply.rs),
+//     the generator (generate.rs), the search (search.rs), and the commands below.
 //
 // The threshold 1.0e-9 stands in the Rust's text only (is_inside, twice) and in the values that generate.rs picks.
 
@@ -29,6 +29,7 @@
 mod countfile;
 mod generate;
 mod isosurface;
+mod ply;
 mod search;
 
 include!(concat!(env!("ORACLE_MADE"), "/modules.rs"));
@@ -36,8 +37,8 @@ include!(concat!(env!("ORACLE_MADE"), "/modules.rs"));
 use std::collections::HashMap;
 use std::io::{Read, Write};
 
-const USAGE: &str = "usage: oracle [--dump] [--unbounded] [FILE]
-       oracle --batch [--dump]
+const USAGE: &str = "usage: oracle [--dump | --ply] [--unbounded] [FILE]
+       oracle --batch [--dump | --ply]
        oracle --generate SEED FROM COUNT [FOLDER]
        oracle --coverage SEED COUNT [FOLDER]
        oracle --search SEED SECONDS FOLDER [NAME]
@@ -89,22 +90,43 @@ fn ends(values: &[Option<f64>]) -> HashMap<[i64; 3], f64> {
     values.iter().enumerate().filter_map(|(e, v)| v.map(|v| (at(e), v))).collect()
 }
 
-/// Answers to many files: `file LENGTH` and the bytes in, the answer and a line `end` out.
+/// Takes the first file off a batch: a line `file LENGTH` and the bytes.
+fn take_file<'a>(rest: &mut &'a [u8]) -> &'a [u8] {
+    let head = rest.strip_prefix(b"file ").unwrap_or_else(|| stop("no line `file LENGTH`"));
+    let end = head.iter().position(|&b| b == b'\n').unwrap_or_else(|| stop("no line `file LENGTH`"));
+    let length: usize = number(&String::from_utf8_lossy(&head[..end]));
+    let body = &head[end + 1..];
+    if body.len() < length {
+        stop("the last file is cut off");
+    }
+    *rest = &body[length..];
+    &body[..length]
+}
+
+/// Puts a file of a batch out.
+fn put_file(out: &mut impl Write, bytes: &[u8]) {
+    let _ = writeln!(out, "file {}", bytes.len());
+    let _ = out.write_all(bytes);
+}
+
+/// Answers to many files: a batch in, for each file the answer and a line `end` out.
 fn batch(dump: bool) {
     let bytes = whole_input(None);
     let mut out = std::io::BufWriter::new(std::io::stdout().lock());
     let mut rest = &bytes[..];
     while !rest.is_empty() {
-        let head = rest.strip_prefix(b"file ").unwrap_or_else(|| stop("no line `file LENGTH`"));
-        let end = head.iter().position(|&b| b == b'\n').unwrap_or_else(|| stop("no line `file LENGTH`"));
-        let length: usize = number(&String::from_utf8_lossy(&head[..end]));
-        let body = &head[end + 1..];
-        if body.len() < length {
-            stop("the last file is cut off");
-        }
-        let _ = out.write_all(countfile::answer_text(&body[..length], dump, false).as_bytes());
+        let _ = out.write_all(countfile::answer_text(take_file(&mut rest), dump, false).as_bytes());
         let _ = out.write_all(b"end\n");
-        rest = &body[length..];
+    }
+}
+
+/// PLY files of many files: a batch in and a batch out, since an answer may hold any bytes.
+fn batch_ply() {
+    let bytes = whole_input(None);
+    let mut out = std::io::BufWriter::new(std::io::stdout().lock());
+    let mut rest = &bytes[..];
+    while !rest.is_empty() {
+        put_file(&mut out, &countfile::answer_ply(take_file(&mut rest), false));
     }
 }
 
@@ -157,14 +179,13 @@ fn main() {
     match words.as_slice() {
         ["--batch"] => batch(false),
         ["--batch", "--dump"] | ["--dump", "--batch"] => batch(true),
+        ["--batch", "--ply"] | ["--ply", "--batch"] => batch_ply(),
         ["--generate", seed, from, count, folder @ ..] if folder.len() < 2 => {
             let kept = generate::kept(folder.first().copied());
             let mut out = std::io::BufWriter::new(std::io::stdout().lock());
             let from: u64 = number(from);
             for index in from..from + number::<u64>(count) {
-                let bytes = generate::file(number(seed), index, &kept);
-                let _ = writeln!(out, "file {}", bytes.len());
-                let _ = out.write_all(&bytes);
+                put_file(&mut out, &generate::file(number(seed), index, &kept));
             }
         }
         ["--coverage", seed, count, folder @ ..] if folder.len() < 2 => {
@@ -199,12 +220,18 @@ fn main() {
         ["--tables"] => tables(),
         _ => {
             let (options, files): (Vec<&String>, Vec<&String>) = args.iter().partition(|a| a.starts_with("--"));
-            if files.len() > 1 || options.iter().any(|o| *o != "--dump" && *o != "--unbounded") {
+            let on = |name: &str| options.iter().any(|o| *o == name);
+            let known = options.iter().all(|o| ["--dump", "--ply", "--unbounded"].contains(&o.as_str()));
+            if files.len() > 1 || !known || on("--dump") && on("--ply") {
                 stop(USAGE);
             }
-            let on = |name: &str| options.iter().any(|o| *o == name);
-            let text = countfile::answer_text(&whole_input(files.first().copied()), on("--dump"), on("--unbounded"));
-            let _ = std::io::stdout().write_all(text.as_bytes());
+            let bytes = whole_input(files.first().copied());
+            let answer = if on("--ply") {
+                countfile::answer_ply(&bytes, on("--unbounded"))
+            } else {
+                countfile::answer_text(&bytes, on("--dump"), on("--unbounded")).into_bytes()
+            };
+            let _ = std::io::stdout().write_all(&answer);
         }
     }
 }

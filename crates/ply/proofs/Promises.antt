@@ -158,6 +158,11 @@ ten-exactly (known k e) = (λ z. absurd (omega (arith, z, read-status e)), λ h 
 ten-exactly (unread n (no-header x o) e) = (λ z. absurd (omega (arith, z, read-status e, o)), λ h y. absurd (x h))
 ten-exactly (unread n (no-body h k o) e) = (λ z. (h, k), λ g y. read-status e ∙ o)
 
+pub some-header : {s : List ℕ} {r : Counts} → SizesOf s r → (r .status ≡ 9 → ⊥) → Headed s
+some-header (known k e) z = kind-headed k
+some-header (unread n (no-header h o) e) z = absurd (z (read-status e ∙ o))
+some-header (unread n (no-body h k o) e) z = h
+
 -- a reader answers as `sizes` does, but for the room
 pub read-sizes : {s l m l′ m′ : List ℕ} {r q : Counts} → ReadOf s l m l′ m′ r → SizesOf s q → (r .status ≡ 11 → ⊥) → r ≡ q
 read-sizes (stored k o x y e) b z = e ∙ sym (sizes-file k b)

@@ -1,0 +1,2 @@
+-- Laws of a PLY file that is read and written again.
+pub mod Again
