@@ -1,13 +1,17 @@
 -- The promise of each function that is linked determines its answer and every entry of every list. Assumes nothing.
-use mathlib.Core.Path.{_≡_, sym, _∙_}
+use mathlib.Core.Path.{_≡_, sym, ap, _∙_}
 use mathlib.Core.Bool.{Bool}
-use mathlib.Core.List.{List}
+use mathlib.Core.List.{List, [], _∷_}
 use Prim.Native.Nat.{ℕ}
 use lib.Ieee.{Float}
 use Rattle.sides.specs.declared.Sample.{Sample}
 use Rattle.topology.specs.Topology.{topologyOf, caseNumber}
 use Rattle.build.specs.Answer.{Order, answerOf, masksAfter, tableAfter, positionsAfter, bookAfter, trianglesAfter, edgesAfter}
+use Rattle.ply.specs.declared.Wrote.{Wrote}
+use Rattle.ply.specs.declared.Counts.{Counts}
+use Rattle.ply.proofs.Promises.{write-unique, sizes-unique, read-unique}
 use Rattle.api.specs.Calls.{countsOf}
+use Rattle.api.specs.Files.{PlyWritten, PlySized, PlyRead}
 
 module _ (o : Order) (m t : List ℕ) (p : List Float) (k tr e : List ℕ) where
   -- the eight promises of `spoonthicket_build`
@@ -41,3 +45,19 @@ module _ (m : ℕ) (cluster : Bool) (ends : List Sample) (h : Float) where
   pub topology-unique : {r s : ℕ} {c d : List ℕ} → r ≡ caseNumber (topologyOf m cluster ends h .case) → s ≡ caseNumber (topologyOf m cluster ends h .case)
       → c ≡ topologyOf m cluster ends h .clusters .masks → d ≡ topologyOf m cluster ends h .clusters .masks → (r ≡ s) × (c ≡ d)
   topology-unique p q u v = (p ∙ sym q, u ∙ sym v)
+
+-- those of the functions on PLY files
+pub ply-written-unique : {ws ts l x y n m : List ℕ} {r q : ℕ} → PlyWritten ws ts l x r n → PlyWritten ws ts l y q m → (x ≡ y) × (r ≡ q) × (n ≡ m)
+ply-written-unique a b =
+    let u = write-unique (a .is) (b .is) in
+    (u .0, a .status ∙ ap (λ (w : Wrote). w .status) (u .1) ∙ sym (b .status), a .length ∙ ap (λ (w : Wrote). w .length ∷ []) (u .1) ∙ sym (b .length))
+
+pub ply-sized-unique : {s n m : List ℕ} {r q : ℕ} → PlySized s r n → PlySized s q m → (r ≡ q) × (n ≡ m)
+ply-sized-unique a b =
+    let u = sizes-unique (a .is) (b .is) in
+    (a .status ∙ ap (λ (c : Counts). c .status) u ∙ sym (b .status), a .numbers ∙ ap (λ (c : Counts). c .vertices ∷ c .faces ∷ []) u ∙ sym (b .numbers))
+
+pub ply-read-unique : {s l m x y x′ y′ n k : List ℕ} {r q : ℕ} → PlyRead s l m x y r n → PlyRead s l m x′ y′ q k → (x ≡ x′) × (y ≡ y′) × (r ≡ q) × (n ≡ k)
+ply-read-unique a b =
+    let u = read-unique (a .is) (b .is) in
+    (u .0, u .1, a .status ∙ ap (λ (c : Counts). c .status) (u .2) ∙ sym (b .status), a .numbers ∙ ap (λ (c : Counts). c .vertices ∷ c .faces ∷ []) (u .2) ∙ sym (b .numbers))

@@ -1,2 +1,3 @@
--- What the lists that C or Rust lends say as values.
+-- What a caller from C or Rust hands over, and what it gets.
 pub mod Calls
+pub mod Files

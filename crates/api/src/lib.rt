@@ -1,5 +1,5 @@
-// What C and Rust link: the build, and two leaves for whoever measures. No function here asks anything of its caller but that each
-// list is as long as it says, that the lists do not overlap, and that the fixed ones have their six, ten or fourteen entries.
+// What C and Rust link: the build, PLY files, and two leaves for whoever measures. No function here asks anything of its caller but that each
+// list is as long as it says, that the lists do not overlap, and that the fixed ones have their entries.
 use build::Answer;
 use lattice::Sides;
 use points::Frame;
@@ -13,7 +13,9 @@ ghost use Rattle.marks.specs.Marks.{sample};
 ghost use Rattle.topology.specs.Topology.{topologyOf, caseNumber};
 ghost use Rattle.pairs.specs.Order.{Sorts};
 ghost use Rattle.build.specs.Answer.{answerOf, masksAfter, tableAfter, positionsAfter, bookAfter, trianglesAfter, edgesAfter};
+ghost use Rattle.ply.specs.Answers.{bitsOf, fileLength};
 ghost use Rattle.api.specs.Calls.{asked, frameAt, countsOf, endsAt};
+ghost use Rattle.api.specs.Files.{PlyWritten, PlyRead, PlySized};
 
 // Origin and step, three numbers each.
 fn frame_at(f: &[f64; 6]) -> Frame
@@ -148,4 +150,70 @@ pub extern "C" fn spoonthicket_sort(words: &mut [u32])
     ensures { λ _. ⌜ Sorts (now (words .entry)) (now (words .exit)) ⌝ }
 {
     pairs::sort(words);
+}
+
+// ---- PLY files
+
+// How long the file of so many vertices and faces is; 0 where one of them is over 999,999,999 and there is no such file.
+#[no_mangle]
+pub extern "C" fn spoonthicket_ply_length(vertices: usize, faces: usize) -> usize
+    ensures { λ r. ⌜ r ≡ fileLength vertices faces ⌝ }
+{
+    ply::length_of(vertices, faces)
+}
+
+// The file of the words and the triangles, put at the front of `out`. The answer is 0, or a refusal, 10 or 11, which leaves `out` as it was; `written` gets the
+// file's length, 0 on a refusal.
+#[no_mangle]
+pub extern "C" fn spoonthicket_ply_write(
+    words: &[u64],
+    triangles: &[u32],
+    out: &mut [u8],
+    written: &mut [usize; 1],
+) -> usize
+    ensures { λ r. ⌜ PlyWritten (now (words .entry)) (now (triangles .entry)) (now (out .entry)) (now (out .exit)) r (now (written .exit)) ⌝ }
+{
+    let wrote = ply::write(words, triangles, out);
+    *written = [wrote.length];
+    wrote.status
+}
+
+// The same for a mesh whose coordinates are floats, as the build leaves them: their bits are written.
+#[no_mangle]
+pub extern "C" fn spoonthicket_ply_mesh(
+    vertices: &[f64],
+    triangles: &[u32],
+    out: &mut [u8],
+    written: &mut [usize; 1],
+) -> usize
+    ensures { λ r. ⌜ PlyWritten (bitsOf (now (vertices .entry))) (now (triangles .entry)) (now (out .entry)) (now (out .exit)) r (now (written .exit)) ⌝ }
+{
+    let wrote = ply::write_mesh(vertices, triangles, out);
+    *written = [wrote.length];
+    wrote.status
+}
+
+// The numbers of vertices and faces of a file, zeros on a refusal, 9 or 10. Nothing else is stored.
+#[no_mangle]
+pub extern "C" fn spoonthicket_ply_sizes(file: &[u8], counts: &mut [usize; 2]) -> usize
+    ensures { λ r. ⌜ PlySized (now (file .entry)) r (now (counts .exit)) ⌝ }
+{
+    let found = ply::sizes(file);
+    *counts = [found.vertices, found.faces];
+    found.status
+}
+
+// The words and the indices of a file, put at the fronts of the two lists. A refusal, 9, 10 or 11, leaves them as they were, and gives zeros.
+#[no_mangle]
+pub extern "C" fn spoonthicket_ply_read(
+    file: &[u8],
+    words: &mut [u64],
+    triangles: &mut [u32],
+    counts: &mut [usize; 2],
+) -> usize
+    ensures { λ r. ⌜ PlyRead (now (file .entry)) (now (words .entry)) (now (triangles .entry)) (now (words .exit)) (now (triangles .exit)) r (now (counts .exit)) ⌝ }
+{
+    let found = ply::read(file, words, triangles);
+    *counts = [found.vertices, found.faces];
+    found.status
 }
