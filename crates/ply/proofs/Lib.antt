@@ -7,3 +7,4 @@ pub mod Floats
 pub mod Files
 pub mod Promises
 pub mod Example
+pub mod Rows
