@@ -188,9 +188,9 @@ pub extern "C" fn spoonthicket_ply_mesh(
 ) -> usize
     ensures { λ r. ⌜ PlyWritten (bitsOf (now (vertices .entry))) (now (triangles .entry)) (now (out .entry)) (now (out .exit)) r (now (written .exit)) ⌝ }
 {
-    let wrote = ply::write_mesh(vertices, triangles, out);
-    *written = [wrote.length];
-    wrote.status
+    let drawn = ply::write_mesh(vertices, triangles, out);
+    *written = [drawn.length];
+    drawn.status
 }
 
 // The numbers of vertices and faces of a file, zeros on a refusal, 9 or 10. Nothing else is stored.
@@ -198,9 +198,9 @@ pub extern "C" fn spoonthicket_ply_mesh(
 pub extern "C" fn spoonthicket_ply_sizes(file: &[u8], counts: &mut [usize; 2]) -> usize
     ensures { λ r. ⌜ PlySized (now (file .entry)) r (now (counts .exit)) ⌝ }
 {
-    let found = ply::sizes(file);
-    *counts = [found.vertices, found.faces];
-    found.status
+    let sized = ply::sizes(file);
+    *counts = [sized.vertices, sized.faces];
+    sized.status
 }
 
 // The words and the indices of a file, put at the fronts of the two lists. A refusal, 9, 10 or 11, leaves them as they were, and gives zeros.
@@ -213,7 +213,7 @@ pub extern "C" fn spoonthicket_ply_read(
 ) -> usize
     ensures { λ r. ⌜ PlyRead (now (file .entry)) (now (words .entry)) (now (triangles .entry)) (now (words .exit)) (now (triangles .exit)) r (now (counts .exit)) ⌝ }
 {
-    let found = ply::read(file, words, triangles);
-    *counts = [found.vertices, found.faces];
-    found.status
+    let stored = ply::read(file, words, triangles);
+    *counts = [stored.vertices, stored.faces];
+    stored.status
 }

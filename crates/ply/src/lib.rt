@@ -72,11 +72,8 @@ fn put_head(out: &mut [u8], v: u64, f: u64) -> usize
         b"property double x\nproperty double y\nproperty double z\nelement face ",
         f,
     );
-    text::put_text(
-        out,
-        b,
-        b"property list uchar int vertex_indices\nend_header\n",
-    )
+    let c = text::put_text(out, b, b"property list uchar int vertex_indices\n");
+    text::put_text(out, c, b"end_header\n")
 }
 
 // How many digits n has.
