@@ -82,6 +82,56 @@ size_t spoonthicket_topology(uint16_t mask, size_t method, const double ends[14]
 /* Sorts records of three words, ascending by all three. Words past the last whole record stay. */
 void spoonthicket_sort(uint32_t *words, size_t words_len);
 
+/* PLY files: PLY 1.0, binary little endian, three doubles x, y, z a vertex, a list of three ints with a uchar count a face, counts of at
+ * most nine digits, no comments. Coordinates are 64-bit words, the bits of the doubles, so that a NaN keeps its payload on the way.
+ *
+ * What these functions answer. The lowest number that applies is given; a refusal stores nothing but the numbers, which are zeros.
+ */
+enum {
+    SPOONTHICKET_PLY_HEADER = 9, /* readers: the file does not begin with a header of this kind */
+    SPOONTHICKET_PLY_BODY = 10,  /* readers: a body too short or too long, a face of other than three, an index that is no vertex;
+                                    writers: a list not in whole threes, a count over 999,999,999, an index that is no vertex */
+    SPOONTHICKET_PLY_ROOM = 11   /* readers: words shorter than 3 a vertex, or triangles than 3 a face; writers: out shorter than the file */
+};
+
+/* How long the file of so many vertices and faces is: at most 188 + 24 a vertex + 13 a face. 0 where one count is over 999,999,999. */
+size_t spoonthicket_ply_length(size_t vertices, size_t faces);
+
+/* Writes the file of the words (three a vertex) and the triangles (three vertex numbers each) to the front of out; what lies behind it
+ * stays as it was. written gets its length.
+ */
+size_t spoonthicket_ply_write(
+    const uint64_t *words, size_t words_len,
+    const uint32_t *triangles, size_t triangles_len,
+    uint8_t *out, size_t out_len,
+    size_t written[1]);
+
+/* The same of doubles, as spoonthicket_build leaves them: lend the first 3 * counts[SPOONTHICKET_MADE] of its vertices and the first
+ * 3 * counts[SPOONTHICKET_TRIANGLES] of its triangles. A mesh of the build is never answered 10. Every NaN is written as one.
+ */
+size_t spoonthicket_ply_mesh(
+    const double *vertices, size_t vertices_len,
+    const uint32_t *triangles, size_t triangles_len,
+    uint8_t *out, size_t out_len,
+    size_t written[1]);
+
+/* The places of a reader's counts. */
+enum {
+    SPOONTHICKET_PLY_VERTICES,
+    SPOONTHICKET_PLY_FACES,
+    SPOONTHICKET_PLY_COUNTS
+};
+
+/* How many vertices and faces a file has, so that room can be lent to read it. Never answers 11. */
+size_t spoonthicket_ply_sizes(const uint8_t *file, size_t file_len, size_t counts[SPOONTHICKET_PLY_COUNTS]);
+
+/* Reads a file: its words to the front of words, its vertex numbers to the front of triangles; what lies behind them stays as it was. */
+size_t spoonthicket_ply_read(
+    const uint8_t *file, size_t file_len,
+    uint64_t *words, size_t words_len,
+    uint32_t *triangles, size_t triangles_len,
+    size_t counts[SPOONTHICKET_PLY_COUNTS]);
+
 #ifdef __cplusplus
 }
 #endif

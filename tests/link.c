@@ -1,4 +1,4 @@
-/* Links the archive from C by the header: document 01's example, one refusal, the topology test and the sort. Prints "ok". */
+/* Links the archive from C by the header: document 01's example, one refusal, its PLY file written and read, the topology test and the sort. Prints "ok". */
 #include "spoonthicket.h"
 
 #include <stdio.h>
@@ -39,6 +39,32 @@ int main(void)
     for (i = 0; i < 3 * counts[SPOONTHICKET_TRIANGLES]; i++)
         if (triangles[i] >= counts[SPOONTHICKET_MADE])
             return failed("a triangle without a vertex");
+
+    {
+        static uint8_t file[188 + 24 * MOST + 13 * 12 * CELLS];
+        static uint64_t words[3 * MOST];
+        static uint32_t corners[36 * CELLS];
+        const size_t made = counts[SPOONTHICKET_MADE];
+        const size_t faces = counts[SPOONTHICKET_TRIANGLES];
+        size_t length[1], read[SPOONTHICKET_PLY_COUNTS];
+
+        if (spoonthicket_ply_mesh(vertices, 3 * made, triangles, 3 * faces, file, sizeof file, length) != 0)
+            return failed("the PLY file is refused");
+        if (length[0] != spoonthicket_ply_length(made, faces) || length[0] != 173 + 24 * made + 13 * faces)
+            return failed("the length of the PLY file");
+        if (memcmp(file, "ply\nformat binary_little_endian 1.0\nelement vertex 8\n", 53) != 0)
+            return failed("the header of the PLY file");
+        if (spoonthicket_ply_sizes(file, length[0], read) != 0 || read[SPOONTHICKET_PLY_VERTICES] != made || read[SPOONTHICKET_PLY_FACES] != faces)
+            return failed("the sizes of the PLY file");
+        if (spoonthicket_ply_read(file, length[0], words, 3 * made, corners, 3 * faces, read) != 0)
+            return failed("the PLY file is not read");
+        if (memcmp(words, vertices, 24 * made) != 0 || memcmp(corners, triangles, 12 * faces) != 0)
+            return failed("what is read is not what was written");
+        if (spoonthicket_ply_write(words, 3 * made, corners, 3 * faces, file, length[0] - 1, length) != SPOONTHICKET_PLY_ROOM || length[0] != 0)
+            return failed("short room for a PLY file is not refused");
+        if (spoonthicket_ply_read(file, 52, words, 3 * made, corners, 3 * faces, read) != SPOONTHICKET_PLY_HEADER || read[0] != 0 || read[1] != 0)
+            return failed("a cut header is not refused");
+    }
 
     memset(masks, 0x5A, sizeof masks);
     if (spoonthicket_build(3, 3, 3, 1, 4, frame, samples, SITES, masks, SITES, table, 7 * SITES, vertices, 3 * MOST, book, 4 * MOST - 1,

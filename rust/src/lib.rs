@@ -1,6 +1,7 @@
-//! A safe Rust wrapper of Spoonthicket's proved surface build. What is proved ends at the functions declared in `linked`.
+//! A safe Rust wrapper of Spoonthicket's proved surface build and its PLY files. What is proved ends at the functions declared in `linked`.
 
 pub mod count_file;
+pub mod ply;
 
 /// The functions of the archive, as include/spoonthicket.h has them. Nothing checks these lines against the Rattle source.
 mod linked {
@@ -30,6 +31,35 @@ mod linked {
         ) -> usize;
         pub fn spoonthicket_topology(mask: u16, method: usize, ends: *const [f64; 14], clusters: *mut [u16; 14]) -> usize;
         pub fn spoonthicket_sort(words: *mut u32, words_len: usize);
+        pub fn spoonthicket_ply_length(vertices: usize, faces: usize) -> usize;
+        pub fn spoonthicket_ply_write(
+            words: *const u64,
+            words_len: usize,
+            triangles: *const u32,
+            triangles_len: usize,
+            out: *mut u8,
+            out_len: usize,
+            written: *mut [usize; 1],
+        ) -> usize;
+        pub fn spoonthicket_ply_mesh(
+            vertices: *const f64,
+            vertices_len: usize,
+            triangles: *const u32,
+            triangles_len: usize,
+            out: *mut u8,
+            out_len: usize,
+            written: *mut [usize; 1],
+        ) -> usize;
+        pub fn spoonthicket_ply_sizes(file: *const u8, file_len: usize, counts: *mut [usize; 2]) -> usize;
+        pub fn spoonthicket_ply_read(
+            file: *const u8,
+            file_len: usize,
+            words: *mut u64,
+            words_len: usize,
+            triangles: *mut u32,
+            triangles_len: usize,
+            counts: *mut [usize; 2],
+        ) -> usize;
     }
 }
 
@@ -192,6 +222,19 @@ pub struct Mesh {
     /// For each: the site that marked its edges, edges held now (0 once retired), edges held when made, round made.
     pub book: Vec<[u32; 4]>,
     pub triangles: Vec<[u32; 3]>,
+}
+
+impl Mesh {
+    /// The mesh as a PLY file: every vertex ever made, retired ones too, and the triangles. A mesh that was built is never refused.
+    /// Panics where the lists were changed so that an index is no vertex, or a count is over 999,999,999.
+    pub fn to_ply(&self) -> Vec<u8> {
+        let mut out = vec![0; ply::length(self.positions.len(), self.triangles.len())];
+        match ply::write_mesh_in(self.positions.as_flattened(), self.triangles.as_flattened(), &mut out) {
+            Ok(length) => assert_eq!(length, out.len()),
+            Err(refusal) => panic!("{refusal}"),
+        }
+        out
+    }
 }
 
 fn rows<T: Copy, const N: usize>(flat: &[T], count: usize) -> Vec<[T; N]> {
