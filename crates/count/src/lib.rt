@@ -70,7 +70,17 @@ fn build_head(
     let method = head[3] as usize;
     let rounds = head[4] as usize;
     build::build(
-        n, method, rounds, frame, samples, masks, table, positions, book, triangles, edges,
+        n,
+        method,
+        rounds,
+        frame,
+        samples,
+        masks,
+        table,
+        positions,
+        book,
+        triangles,
+        edges,
     )
 }
 

@@ -47,32 +47,32 @@ take-some-requires : tie.Need-take-some-requires Inv-loop μ-loop
 take-some-requires c κs = search needs
 
 same-length : tie.Need-same-length Inv-loop μ-loop
-same-length c = 
+same-length c =
     let t = c .before .before .before .before in
     let l = t .before .before .before .loop in
     kept (l .at) (l .space) (t .take-some .last .1 .0) (t .take-some .kept .1 .0) (l .inv .0) ∙ l .inv .1
 
 returns : tie.Need-returns Inv-loop μ-loop
-returns c = 
+returns c =
     let t = c .before .before .before .before in
     let l = t .before .before .before .loop in
     upto (l .at) (l .space) (t .take-some .last .1 .0) (t .take-some .kept .1 .0) (l .inv .0)
 
 add-at : tie.Need-add-at Inv-loop μ-loop
-add-at c = 
+add-at c =
     let t = c .before .before .before .before .before in
     let l = t .before .before .before .loop in
     omega (arith, further (l .at) (l .space) (t .take-some .last .1 .0) (t .take-some .kept .1 .0) (l .inv .0) (t .take-some .result .length) (t .take-some .ensures))
 
 loop-less : tie.Need-loop-less Inv-loop μ-loop
-loop-less c = 
+loop-less c =
     let t = c .before .before .before .before .before in
     let l = t .before .before .before .loop in
     rw (kept (l .at) (l .space) (t .take-some .last .1 .0) (t .take-some .kept .1 .0) (l .inv .0))
     (omega (arith, further (l .at) (l .space) (t .take-some .last .1 .0) (t .take-some .kept .1 .0) (l .inv .0) (t .take-some .result .length) (t .take-some .ensures), c .before .if1 .left))
 
 loop-again : tie.Need-loop-again Inv-loop μ-loop
-loop-again c = 
+loop-again c =
     let t = c .before .before .before .before .before in
     let l = t .before .before .before .loop in
     let k = kept (l .at) (l .space) (t .take-some .last .1 .0) (t .take-some .kept .1 .0) (l .inv .0) in
