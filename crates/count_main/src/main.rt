@@ -10,5 +10,6 @@ fn main() {
         let mut out = [0u8; 402];
         let k = count::count_text(&space[..n], &mut out);
         streams::write(&out[..k]);
+        streams::finish(taken.fd);
     }
 }

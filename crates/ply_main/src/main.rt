@@ -10,5 +10,6 @@ fn main() {
         let mut out = [0u8; 88316];
         let k = ply_file::ply_text(&space[..n], &mut out);
         streams::write(&out[..k]);
+        streams::finish(taken.fd);
     }
 }

@@ -7,10 +7,11 @@ ghost use Prim.Native.Nat.{_≤_};
 ghost use lib.ListN.{length};
 ghost use Rattle.io.specs.Counts.{Counts};
 
-// How many bytes were put at the front of a buffer, and whether that went well.
+// How many bytes of fd were put at the front of a buffer, and whether that went well.
 pub struct Taken {
     pub ok: bool,
     pub length: usize,
+    pub fd: i32,
 }
 
 // One read. No bytes and ok: the input has ended.
@@ -21,25 +22,11 @@ fn take_some(fd: i32, part: &mut [u8]) -> Taken
     Taken {
         ok: got >= 0,
         length: io::count(got, part),
+        fd,
     }
 }
 
-// To the end of the input; whether it was reached. A proved loop has to end, and nothing says that an input does, so it counts down from a number
-// that no run uses up.
-fn drop_rest(fd: i32) -> bool {
-    let mut space = io::large_buffer();
-    let mut turns = u64::MAX;
-    while turns > 0 {
-        let some = take_some(fd, &mut space);
-        if some.length == 0 {
-            return some.ok;
-        }
-        turns -= 1;
-    }
-    false
-}
-
-// All bytes of fd. What has no room is read all the same, and dropped.
+// The bytes of fd, to its end or until there is no room.
 fn take_all(fd: i32, space: &mut [u8]) -> Taken
     ensures { λ r. ⌜ Counts (r .length) (now (space .exit)) ⌝ }
 {
@@ -50,13 +37,15 @@ fn take_all(fd: i32, space: &mut [u8]) -> Taken
             return Taken {
                 ok: some.ok,
                 length: at,
+                fd,
             };
         }
         at += some.length;
     }
     Taken {
-        ok: drop_rest(fd),
+        ok: true,
         length: at,
+        fd,
     }
 }
 
@@ -83,8 +72,8 @@ fn open(usage: &[u8]) -> i32 {
     STDIN_FILENO
 }
 
-// The program's input, at the front of `space`. Where it is longer, its first bytes. Not ok where it could not be read to its end: then no answer about it
-// is to be given.
+// The program's input, at the front of `space`. Where it is longer, its first bytes. Not ok where it could not be read: then no answer about it is to be
+// given.
 pub fn read(usage: &[u8], space: &mut [u8]) -> Taken
     ensures { λ r. ⌜ Counts (r .length) (now (space .exit)) ⌝ }
 {
@@ -93,6 +82,7 @@ pub fn read(usage: &[u8], space: &mut [u8]) -> Taken
         return Taken {
             ok: false,
             length: 0,
+            fd,
         };
     }
     let taken = take_all(fd, space);
@@ -103,11 +93,24 @@ pub fn read(usage: &[u8], space: &mut [u8]) -> Taken
     taken
 }
 
-// The program's answer; whether all of it was written.
-pub fn write(answer: &[u8]) -> bool {
+// The program's answer, written in one go.
+pub fn write(answer: &[u8]) {
     if io::write_all(STDOUT_FILENO, answer) {
-        return true;
+        return;
     }
     os::fail(b"the answer");
-    false
+}
+
+// Reads on to the end of the input, once it is answered, so that whoever writes it is not cut off. A proved loop has to end, and nothing says that an input
+// does, so it counts down from a number that no run uses up.
+pub fn finish(fd: i32) {
+    let mut space = io::large_buffer();
+    let mut turns = u64::MAX;
+    while turns > 0 {
+        let some = take_some(fd, &mut space);
+        if some.length == 0 {
+            return;
+        }
+        turns -= 1;
+    }
 }

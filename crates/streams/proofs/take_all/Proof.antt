@@ -78,14 +78,11 @@ loop-again c =
     let k = kept (l .at) (l .space) (t .take-some .last .1 .0) (t .take-some .kept .1 .0) (l .inv .0) in
     (rw k (further (l .at) (l .space) (t .take-some .last .1 .0) (t .take-some .kept .1 .0) (l .inv .0) (t .take-some .result .length) (t .take-some .ensures)), k ∙ l .inv .1)
 
-drop-rest-requires : tie.Need-drop-rest-requires Inv-loop μ-loop
-drop-rest-requires c κs = search needs
-
 same-length-2 : tie.Need-same-length-2 Inv-loop μ-loop
-same-length-2 c = c .before .before .loop .inv .1
+same-length-2 c = c .before .loop .inv .1
 
 returns-2 : tie.Need-returns-2 Inv-loop μ-loop
-returns-2 c = let i = c .before .before .loop .inv .0 in (i, sym (length-take-le _ _ i))
+returns-2 c = let i = c .before .loop .inv .0 in (i, sym (length-take-le _ _ i))
 
 pub take-all-spec : {M : Type 1} → statement M
 take-all-spec =
@@ -103,6 +100,5 @@ take-all-spec =
     add-at
     loop-less
     loop-again
-    drop-rest-requires
     same-length-2
     returns-2)

@@ -1,10 +1,10 @@
--- `streams::drop_rest` is safe and ends. The measure is the number of turns that are left. Assumes nothing.
+-- `streams::finish` is safe and ends. The measure is the number of turns that are left. Assumes nothing.
 use native.Mathlib.Omega.{arith}
 use mathlib.Core.Path.{_≡_}
 use lib.ListN.{length}
 use borrow.Author.Needs.{needs}
-use Rattle.streams.proofs.drop_rest.Statement.{statement}
-use Rattle.streams.proofs.drop_rest.Tie as tie
+use Rattle.streams.proofs.finish.Statement.{statement}
+use Rattle.streams.proofs.finish.Tie as tie
 
 abbrev Inv-loop : tie.InvT-loop
 Inv-loop fd space₀ turns₀ space turns = 65536 ≡ length space
@@ -39,8 +39,8 @@ loop-again c = search needs
 returns-2 : tie.Need-returns-2 Inv-loop μ-loop
 returns-2 c = search needs
 
-pub drop-rest-spec : {M : Type 1} → statement M
-drop-rest-spec =
+pub finish-spec : {M : Type 1} → statement M
+finish-spec =
     tie.close
     (tie.spec
     Inv-loop
