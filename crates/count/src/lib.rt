@@ -33,7 +33,7 @@ fn point_of(x: u64, y: u64, z: u64) -> Point
 }
 
 // The frame of a header.
-pub fn frame_of(head: [u64; 11]) -> Frame
+fn frame_of(head: [u64; 11]) -> Frame
     ensures { λ r. ⌜ r ≡ headFrame head ⌝ }
 {
     let origin = point_of(head[5], head[6], head[7]);

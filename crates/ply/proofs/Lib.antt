@@ -3,8 +3,8 @@ pub mod Writing
 pub mod Heads
 pub mod Reading
 pub mod Answering
-pub mod Floats
 pub mod Files
 pub mod Promises
+pub mod Floats
 pub mod Example
 pub mod Rows
