@@ -31,7 +31,7 @@ module _ (o : Order) where
   text-refused z = rw (ne-eqb (status o) 0 z)
 
   module _ (z : status o ≡ 0) where
-    text-done : plyOf o ≡ plyText (bitsOf (orderPositions o)) (orderTriangles o)
+    pub text-done : plyOf o ≡ plyText (bitsOf (orderPositions o)) (orderTriangles o)
     unfolding plyOf
     text-done = rw (eq-eqb (status o) 0 z)
 
