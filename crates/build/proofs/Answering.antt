@@ -9,8 +9,9 @@ use borrow.Author.Tests.{eq-eqb, ne-eqb}
 use lib.ListN.{length, getD, take, drop, replicate, length-replicate, take-append-drop}
 use lib.Seq.{sets, sets-eq, drop-append-le, length-take-le}
 use lib.Ieee.{Float}
+use Rattle.laws.specs.Triangles.{flat}
 use Rattle.laws.proofs.Ranges.{each-one-at, each-one-length}
-use Rattle.tables.specs.Cases.{flat}
+use Rattle.laws.proofs.Triangles.{flat-length}
 use Rattle.lattice.specs.Sites.{cells, sites}
 use Rattle.marks.specs.Marks.{crossedCount, maskAt, masksOf}
 use Rattle.stages.specs.Boxes.{Box}
@@ -20,7 +21,6 @@ use Rattle.stages.specs.Samples.{boxOf, positionAt}
 use Rattle.stages.proofs.Book.{book-length}
 use Rattle.stages.proofs.Stages.{built-stage}
 use Rattle.stages.proofs.Table.{table-length}
-use Rattle.tets.proofs.Flat.{flat-length}
 use Rattle.tets.proofs.March.{march-le}
 use Rattle.refusals.specs.Refusals.{most}
 use Rattle.refusals.specs.Granted.{Granted}

@@ -2,22 +2,25 @@
 use mathlib.Core.Path.{_≡_, refl, sym, ap, _∙_}
 use mathlib.Core.Bool.{Bool, true, false, cond}
 use mathlib.Core.List.{List, _++_}
-use Prim.Native.Nat.{ℕ, _*_, _≤_}
+use Prim.Native.Nat.{ℕ, _*_, _≤_, _<_}
 use native.Mathlib.Omega.{arith}
 use borrow.Author.Tests.{eq-eqb, eqb-true}
 use lib.Dec.{eqb}
 use lib.Ieee.{Float}
 use lib.ListN.{length, take, drop, length-append}
 use lib.Seq.{take-at}
-use Rattle.tets.proofs.Flat.{flat-length}
+use Rattle.laws.specs.Lists.{All}
+use Rattle.laws.proofs.Lists.{all-index}
+use Rattle.laws.proofs.Triangles.{flat-length}
 use Rattle.stages.specs.Meshes.{meshOf}
 use Rattle.stages.specs.Samples.{positionAt}
 use Rattle.stages.proofs.Book.{positions-length}
 use Rattle.refusals.proofs.Status.{most-most}
+use Rattle.flags.proofs.Meshes.{corner-low}
 use Rattle.build.specs.declared.Answer.{Answer}
 use Rattle.build.specs.Answer.{Order, status, orderBox, orderVertices, orderPositions, orderTriangles, doneAnswer, refusedAnswer, answerOf, written, positionsAfter, trianglesAfter}
 use Rattle.build.proofs.Answering.{order-granted, done-room}
-use Rattle.build.proofs.Standing.{cells-few}
+use Rattle.lattice.proofs.Sites.{cells-most}
 
 module _ (o : Order) where
   pub answer-status : answerOf o .status ≡ status o
@@ -51,9 +54,9 @@ module _ (o : Order) where
     unfolding orderVertices orderBox
     vertices-most = omega (arith, done-room o z .0, most-most (o .sides) (o .samples) (o .threshold) (order-granted o z .fit))
 
-    pub triangles-most : length (meshOf (orderBox o) (orderVertices o)) ≤ 393216
+    pub triangles-most : length (meshOf (orderBox o) (orderVertices o)) ≤ 357492
     unfolding orderVertices orderBox
-    triangles-most = omega (arith, done-room o z .1, cells-few (o .sides) (order-granted o z .fit), flat-length (meshOf (orderBox o) (orderVertices o)))
+    triangles-most = omega (arith, done-room o z .1, cells-most (o .sides) (order-granted o z .fit), flat-length (meshOf (orderBox o) (orderVertices o)))
 
     -- in the lists that were lent
     pub vertices-lent : 3 * length (orderVertices o) ≤ o .lent .vertices
@@ -66,9 +69,16 @@ module _ (o : Order) where
 
     -- ---- positions and triangles, at the fronts of their lists
 
-    positions-are : answerOf o .vertices * 3 ≡ length (orderPositions o)
+    pub positions-three : length (orderPositions o) ≡ length (orderVertices o) * 3
     unfolding positionAt
-    positions-are = omega (arith, vertices-are, positions-length (positionAt (o .frame) (o .sides) (o .samples)) 3 (λ s es. refl) (orderVertices o))
+    positions-three = positions-length (positionAt (o .frame) (o .sides) (o .samples)) 3 (λ s es. refl) (orderVertices o)
+
+    -- every corner is a vertex
+    pub corners-below : All (λ x. x < length (orderVertices o)) (orderTriangles o)
+    corners-below = all-index 0 (λ x. x < length (orderVertices o)) (orderTriangles o) (corner-low (orderBox o) (orderVertices o))
+
+    positions-are : answerOf o .vertices * 3 ≡ length (orderPositions o)
+    positions-are = omega (arith, vertices-are, positions-three)
 
     corners-are : answerOf o .triangles * 3 ≡ length (orderTriangles o)
     corners-are = omega (arith, triangles-are, flat-length (meshOf (orderBox o) (orderVertices o)))

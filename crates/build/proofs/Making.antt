@@ -8,19 +8,19 @@ use lib.Dec.{eqb}
 use lib.ListN.{length, getD, take, drop}
 use lib.Ieee.{Float}
 use Rattle.laws.specs.Bools.{bit}
-use Rattle.laws.specs.Ranges.{any, each}
+use Rattle.laws.specs.Ranges.{any}
 use Rattle.laws.specs.Lists.{All, count, keep, total}
+use Rattle.laws.specs.Triangles.{flat}
 use Rattle.laws.proofs.Bools.{bit-le, bit-one}
 use Rattle.laws.proofs.Lists.{all-keep, all-map, all-under}
 use Rattle.laws.proofs.Ranges.{any-one, each-all}
 use Rattle.laws.proofs.Sums.{sum-le}
 use Rattle.laws.proofs.Tails.{tail-at, tail-is}
 use Rattle.laws.proofs.Written.{front-take}
-use Rattle.tables.specs.Cases.{flat}
+use Rattle.laws.proofs.Triangles.{flat-length}
 use Rattle.lattice.specs.declared.Sides.{Sides}
 use Rattle.lattice.specs.Sites.{SidesFit, cells, sites}
 use Rattle.points.specs.declared.Frame.{Frame}
-use Rattle.tets.proofs.Flat.{flat-length}
 use Rattle.pairs.specs.Sides.{over}
 use Rattle.stages.specs.Boxes.{Box}
 use Rattle.stages.specs.Vertices.{Vertex, candidates, filled, fresh, held, siteVertices}

@@ -9,8 +9,8 @@ use lib.ListN.{length, replicate, length-append, length-map}
 use lib.Ieee.{Float}
 use Rattle.laws.specs.Written.{Written}
 use Rattle.laws.specs.Couples.{Pair}
+use Rattle.laws.specs.Triangles.{flat}
 use Rattle.laws.proofs.Bools.{and-apart}
-use Rattle.tables.specs.Cases.{flat}
 use Rattle.lattice.specs.declared.Sides.{Sides}
 use Rattle.lattice.specs.Sites.{SidesFit, sites}
 use Rattle.points.specs.declared.Frame.{Frame}

@@ -10,17 +10,17 @@ use lib.Seq.{sets}
 use lib.Ieee.{Float}
 use Rattle.laws.specs.Ranges.{any}
 use Rattle.laws.specs.Written.{Written}
+use Rattle.laws.specs.Triangles.{flat}
 use Rattle.laws.proofs.Bools.{bit-one}
 use Rattle.laws.proofs.Ranges.{any-one}
 use Rattle.laws.proofs.Tails.{tail-is, tail-at}
 use Rattle.laws.proofs.Written.{front-take}
-use Rattle.tables.specs.Cases.{flat}
+use Rattle.laws.proofs.Triangles.{flat-length}
 use Rattle.lattice.specs.declared.Sides.{Sides}
 use Rattle.lattice.specs.Sites.{SidesFit, sites, cells}
 use Rattle.points.specs.declared.Frame.{Frame}
 use Rattle.tets.specs.March.{march}
 use Rattle.tets.specs.Lists as lists
-use Rattle.tets.proofs.Flat.{flat-length}
 use Rattle.stages.specs.Meshes.{bookOf, meshOf}
 use Rattle.stages.specs.Rounds.{isIn, owners}
 use Rattle.stages.specs.Samples.{boxOf}

@@ -8,14 +8,13 @@ use lib.ListN.{length}
 use lib.Seq.{sets}
 use lib.Ieee.{Float}
 use Rattle.laws.specs.Written.{Written}
-use Rattle.tables.specs.Cases.{Tri, flat}
+use Rattle.laws.specs.Triangles.{Tri, flat}
+use Rattle.laws.proofs.Triangles.{flat-length}
 use Rattle.lattice.specs.declared.Sides.{Sides}
 use Rattle.lattice.specs.Sites.{SidesFit, cells}
-use Rattle.lattice.proofs.Sites.{cells-room}
 use Rattle.points.specs.declared.Frame.{Frame}
 use Rattle.tets.specs.March.{march}
 use Rattle.tets.specs.Lists as lists
-use Rattle.tets.proofs.Flat.{flat-length}
 use Rattle.tets.proofs.March.{march-le}
 use Rattle.stages.specs.Vertices.{Vertex}
 use Rattle.stages.specs.Meshes.{fieldOf, meshOf, tableOf}
@@ -51,10 +50,6 @@ module _ (n : Sides) (S : List Float) (h : Float) (cluster : Bool) (fit : SidesF
   pub mesh-room : (vs : List Vertex) (tr : List ℕ) → 36 * cells n ≤ length tr → length (flat (meshOf (boxOf n S h cluster) vs)) ≤ length tr
   unfolding meshOf fieldOf boxOf
   mesh-room vs tr l = omega (arith, flat-length (meshOf (boxOf n S h cluster) vs), march-le (fieldOf (boxOf n S h cluster) vs))
-
-pub cells-few : (n : Sides) → SidesFit n → cells n ≤ 32768
-unfolding cells
-cells-few n fit = cells-room n fit .1
 
 module _ (n : Sides) (S : List Float) (h : Float) (cluster : Bool) where
   -- THE MARCH OVER THE TABLE OF VERTICES IS THEIR MESH

@@ -6,12 +6,12 @@ use Prim.Native.Nat.{ℕ, _*_}
 use lib.Dec.{eqb}
 use lib.ListN.{length, drop, replicate}
 use lib.Ieee.{Float}
+use Rattle.laws.specs.Triangles.{flat}
 use Rattle.sides.specs.Sides.{base}
 use Rattle.lattice.specs.declared.Sides.{Sides}
 use Rattle.lattice.specs.Sites.{sites, cells}
 use Rattle.marks.specs.Marks.{masksOf, crossedCount}
 use Rattle.points.specs.declared.Frame.{Frame}
-use Rattle.tables.specs.Cases.{flat}
 use Rattle.stages.specs.Boxes.{Box}
 use Rattle.stages.specs.Vertices.{Vertex, candidates}
 use Rattle.stages.specs.Meshes.{tableOf, bookOf, positionsOf, meshOf}

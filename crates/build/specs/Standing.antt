@@ -7,10 +7,10 @@ use lib.ListN.{length, getD, drop}
 use lib.Seq.{sets}
 use lib.Ieee.{Float}
 use Rattle.laws.specs.Couples.{Pair}
+use Rattle.laws.specs.Triangles.{flat}
 use Rattle.lattice.specs.declared.Sides.{Sides}
 use Rattle.lattice.specs.Sites.{sites, cells}
 use Rattle.points.specs.declared.Frame.{Frame}
-use Rattle.tables.specs.Cases.{flat}
 use Rattle.stages.specs.Vertices.{Vertex, candidates}
 use Rattle.stages.specs.Meshes.{meshOf}
 use Rattle.stages.specs.Splits.{badPairs, endOf, place, split, splitCount}

@@ -5,10 +5,10 @@ use mathlib.Core.Bool.{Bool, true}
 use mathlib.Core.List.{map}
 use Prim.Native.Nat.{ℕ, _+_, _*_, _≤_, _<_}
 use native.Mathlib.Omega.{arith}
-use Rattle.laws.specs.Lists.{count}
-use Rattle.laws.specs.Couples.{Pair, turn, fromTo, weigh}
+use Rattle.laws.specs.Lists.{count, weigh}
+use Rattle.laws.specs.Couples.{Pair, turn, fromTo}
+use Rattle.laws.specs.Triangles.{sidesOf}
 use Rattle.laws.proofs.Couples.{turn-count, same-weigh}
-use Rattle.tables.specs.Cases.{sidesOf}
 use Rattle.lattice.specs.Sites.{inBox, siteOf, onBorder}
 use Rattle.tets.specs.March.{Field, none, sideAt, vertexAt, march}
 use Rattle.tets.specs.Runs.{runs, touches}

@@ -11,6 +11,7 @@ use Rattle.laws.specs.Bools.{bit, allBools}
 use Rattle.laws.specs.Ranges.{each, sum, all}
 use Rattle.laws.specs.Lists.{count, every, All}
 use Rattle.laws.specs.Couples.{Pair, turn, onBoth, fromTo, against, push, left, isNil, cancels}
+use Rattle.laws.specs.Triangles.{Tri, flat, sidesOf}
 use Rattle.laws.proofs.Bools.{bools-at, and-apart, true-T}
 use Rattle.laws.proofs.Ranges.{each-map, same-at}
 use Rattle.laws.proofs.Sums.{each-count}
@@ -18,7 +19,7 @@ use Rattle.laws.proofs.Lists.{count-append, map-append, every-all}
 use Rattle.laws.proofs.Couples.{turn-count, onBoth-turn, cancels-even}
 use Rattle.tables.specs.Edges.{cornerOf, labelTo, du, dv, dw}
 use Rattle.tables.specs.Tets.{tetLabel, tetCorner, tetPair, tetPairs, edgeOf, edgeIn}
-use Rattle.tables.specs.Cases.{Tri, flat, sidesOf, mtRow, segment}
+use Rattle.tables.specs.Cases.{mtRow, segment}
 use Rattle.tables.proofs.Cases.{segment-named}
 use Rattle.tets.specs.Cells.{Corners, at, caseOf, tetOk, caseNo, onEach, tetTris, cellTris}
 use Rattle.closed.specs.Faces.{unit, segmentOn, face}

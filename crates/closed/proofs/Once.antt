@@ -7,11 +7,11 @@ use Prim.Native.Nat.{ℕ, zero, suc, _/_, _%_, _≤_, _<_}
 use native.Mathlib.Omega.{arith}
 use Rattle.laws.specs.Lists.{keep, count}
 use Rattle.laws.specs.Couples.{Pair, onBoth, fromTo}
+use Rattle.laws.specs.Triangles.{Tri, sidesOf}
 use Rattle.laws.proofs.Ranges.{lt-or}
 use Rattle.laws.proofs.Lists.{all-map, count-map, count-witness, count-within}
 use Rattle.laws.proofs.Couples.{from-ends, ends-from}
 use Rattle.tables.specs.Edges.{du, dv, dw}
-use Rattle.tables.specs.Cases.{Tri, sidesOf}
 use Rattle.lattice.specs.Sites.{inBox, step}
 use Rattle.tets.specs.Cells.{onEach, cellTris}
 use Rattle.tets.specs.March.{Field, vertexAt, cornersOf, vertexIn, proper, march}

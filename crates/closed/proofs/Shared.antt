@@ -12,13 +12,14 @@ use Rattle.laws.specs.Bools.{bit}
 use Rattle.laws.specs.Ranges.{all}
 use Rattle.laws.specs.Lists.{count, every, All}
 use Rattle.laws.specs.Couples.{Pair, turn, onBoth, fromTo}
+use Rattle.laws.specs.Triangles.{sidesOf}
 use Rattle.laws.proofs.Bools.{bools-at, and-apart, and-yes, true-T, T-true}
 use Rattle.laws.proofs.Ranges.{all-at, all-at2, same-at2, lt-or, eq-or}
 use Rattle.laws.proofs.Lists.{every-all, all-map, all-of, count-map, count-within}
 use Rattle.laws.proofs.Couples.{from-ends, ends-from}
 use Rattle.tables.specs.Edges.{cornerOf, labelTo, du, dv, dw}
 use Rattle.tables.specs.Tets.{edgeOf}
-use Rattle.tables.specs.Cases.{sidesOf, segment}
+use Rattle.tables.specs.Cases.{segment}
 use Rattle.tables.proofs.Edges.{corner-steps}
 use Rattle.lattice.specs.Sites.{step}
 use Rattle.lattice.proofs.Sites.{step-add}

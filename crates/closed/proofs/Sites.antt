@@ -9,10 +9,10 @@ use native.Mathlib.Omega.{arith}
 use borrow.Author.Tests.{eqb-false, lt-ltb, eq-eqb, ne-eqb}
 use lib.Dec.{eqb, ltb}
 use Rattle.laws.specs.Lists.{keep, All}
+use Rattle.laws.specs.Triangles.{Tri, flat}
 use Rattle.laws.proofs.Bools.{and-yes, or-none}
 use Rattle.laws.proofs.Ranges.{each-same}
 use Rattle.tables.specs.Edges.{cornerOf, du, dv, dw}
-use Rattle.tables.specs.Cases.{Tri, flat}
 use Rattle.lattice.specs.declared.Sides.{Sides}
 use Rattle.lattice.specs.Sites.{inBox, atEnd, onBorder, step}
 use Rattle.lattice.proofs.Sites.{step-low, step-high, step-step}

@@ -9,11 +9,11 @@ use lib.ListN.{length}
 use Rattle.laws.specs.Ranges.{each, sum}
 use Rattle.laws.specs.Lists.{keep, count}
 use Rattle.laws.specs.Couples.{fromTo}
+use Rattle.laws.specs.Triangles.{Tri, sidesOf}
 use Rattle.laws.proofs.Sums.{sum-same}
 use Rattle.laws.proofs.Lists.{count-append}
 use Rattle.tables.specs.Edges.{labelTo, du, dv, dw}
 use Rattle.tables.specs.Tets.{edgeOf}
-use Rattle.tables.specs.Cases.{Tri, sidesOf}
 use Rattle.tables.proofs.Cases.{segment-none, sides-append}
 use Rattle.lattice.specs.Sites.{step}
 use Rattle.tets.specs.Cells.{at, onEach, cellTris}

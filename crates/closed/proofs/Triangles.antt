@@ -10,9 +10,9 @@ use lib.ListN.{getD}
 use Rattle.laws.specs.Bools.{bit, allBools}
 use Rattle.laws.specs.Lists.{keep, count, All}
 use Rattle.laws.specs.Couples.{turn, fromTo}
+use Rattle.laws.specs.Triangles.{Tri, sidesOf}
 use Rattle.laws.proofs.Bools.{bools-at, and-left, and-right, and-apart}
 use Rattle.laws.proofs.Couples.{turn-from}
-use Rattle.tables.specs.Cases.{Tri, sidesOf}
 use Rattle.tets.specs.March.{proper}
 use Rattle.tets.specs.Runs.{runs, touches}
 

@@ -11,16 +11,16 @@ use lib.ListN.{length, getD}
 use borrow.Author.Tests.{eq-eqb}
 use Rattle.laws.specs.Lists.{All}
 use Rattle.laws.specs.Ranges.{any}
+use Rattle.laws.specs.Triangles.{Tri, flat}
 use Rattle.laws.proofs.Bools.{and-apart}
 use Rattle.laws.proofs.Lists.{all-both, all-kept, all-map, all-member, all-of, all-under}
 use Rattle.laws.proofs.Ranges.{any-some, each-all}
-use Rattle.tables.specs.Cases.{Tri, flat}
+use Rattle.laws.proofs.Triangles.{flat-length}
 use Rattle.lattice.specs.declared.Sides.{Sides}
 use Rattle.lattice.specs.Sites.{SidesFit, cells, sites}
-use Rattle.lattice.proofs.Sites.{product-le}
+use Rattle.lattice.proofs.Sites.{product-le, cells-most}
 use Rattle.tets.specs.Cells.{cellTris, onEach}
 use Rattle.tets.specs.March.{none, cornersOf, emitted, march, okAt, proper, resolved, sideAt, siteTris, slab, vertexAt, vertexIn}
-use Rattle.tets.proofs.Flat.{flat-length}
 use Rattle.tets.proofs.March.{march-emitted, march-le, march-proper}
 use Rattle.stages.specs.Boxes.{Box}
 use Rattle.stages.specs.Vertices.{Vertex}
@@ -92,11 +92,6 @@ module _ (b : Box) (vs : List Vertex) where
   corner-low k h = all-member 0 (λ x. x < length vs) (flat (meshOf b vs)) (flat-all (λ x. x < length vs) (meshOf b vs) mesh-low) k h
 
 -- ---- what the flags of a mesh ask of the working list
-
-cells-most : (n : Sides) → SidesFit n → cells n ≤ 32768
-unfolding cells
-cells-most n f =
-    product-le ((n .nu - 1) * (n .nv - 1)) (n .nw - 1) 1024 32 (product-le (n .nu - 1) (n .nv - 1) 32 32 (omega (arith, f .u-most)) (omega (arith, f .v-most))) (omega (arith, f .w-most))
 
 factors : (x y z : ℕ) → 0 < x * y * z → (0 < x) × (0 < y) × (0 < z)
 factors zero y z h = let e : ⊥ = omega arith in absurd e

@@ -3,7 +3,7 @@ use mathlib.Core.Path.{_≡_, refl, sym, ap, _∙_}
 use mathlib.Core.Logic.{⊎-elim}
 use mathlib.Core.Bool.{Bool, true, false, _&&_, _||_, false≢true}
 use mathlib.Core.List.{List, [], _∷_, map}
-use Prim.Native.Nat.{ℕ, _+_, _*_, _-_, _/_, _%_, _≤_, _<_}
+use Prim.Native.Nat.{ℕ, _+_, _*_, _/_, _%_, _≤_, _<_}
 use native.Mathlib.Omega.{arith}
 use lib.Dec.{eqb, ltb}
 use lib.ListN.{length, getD, drop, List·getD-append, List·getD-eq-default}
@@ -11,12 +11,12 @@ use lib.Seq.{sets, sets-eq, length-sets}
 use borrow.Author.Tests.{eqb-true}
 use Rattle.laws.specs.Lists.{All, count, keep}
 use Rattle.laws.specs.Ranges.{any}
+use Rattle.laws.specs.Triangles.{flat}
 use Rattle.laws.proofs.Bools.{and-apart, or-apart}
 use Rattle.laws.proofs.Lists.{all-member, all-of, all-under}
 use Rattle.laws.proofs.Ranges.{any-none, any-one, any-same, each-all, lt-or}
+use Rattle.laws.proofs.Triangles.{flat-length}
 use Rattle.lattice.specs.Sites.{cells, sites}
-use Rattle.tables.specs.Cases.{flat}
-use Rattle.tets.proofs.Flat.{flat-length}
 use Rattle.pairs.specs.Sides.{over}
 use Rattle.stages.specs.Boxes.{Box}
 use Rattle.stages.specs.Vertices.{Vertex, apart, candidates, filled, fresh, held, nobody, several, siteVertices}

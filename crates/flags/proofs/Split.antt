@@ -8,8 +8,8 @@ use lib.Dec.{eqb}
 use lib.ListN.{length, getD}
 use Rattle.laws.specs.Ranges.{any}
 use Rattle.laws.specs.Couples.{Pair}
+use Rattle.laws.specs.Triangles.{flat}
 use Rattle.laws.proofs.Ranges.{any-none}
-use Rattle.tables.specs.Cases.{flat}
 use Rattle.pairs.specs.Sides.{next, over}
 use Rattle.stages.specs.Boxes.{Box}
 use Rattle.stages.specs.Vertices.{Vertex, candidates, several}

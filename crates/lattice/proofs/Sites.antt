@@ -13,7 +13,7 @@ use Rattle.tables.specs.Edges.{offset, plus, times, deltas, delta}
 use Rattle.tables.proofs.Edges.{offset-eq}
 use Rattle.lattice.specs.declared.Sides.{Sides}
 use Rattle.lattice.specs.declared.Uvw.{Uvw}
-use Rattle.lattice.specs.Sites.{sideOk, sidesOk, SidesFit, sites, InBox, siteOf, uvwOf, step, ijkOf}
+use Rattle.lattice.specs.Sites.{sideOk, sidesOk, SidesFit, sites, cells, InBox, siteOf, uvwOf, step, ijkOf}
 
 -- ---- the sides
 
@@ -57,10 +57,14 @@ site-room n p f b =
     let x = product-le (n .nv) (p .w) 32 32 (f .v-most) (omega (arith, b .on-w, f .w-most)) in
     (x, product-le (n .nu) (p .v + n .nv * p .w) 32 1056 (f .u-most) (omega (arith, x, b .on-v, f .v-most)))
 
-pub cells-room : (n : Sides) → SidesFit n → ((n .nu - 1) * (n .nv - 1) ≤ 1024) × ((n .nu - 1) * (n .nv - 1) * (n .nw - 1) ≤ 32768)
+pub cells-room : (n : Sides) → SidesFit n → ((n .nu - 1) * (n .nv - 1) ≤ 961) × ((n .nu - 1) * (n .nv - 1) * (n .nw - 1) ≤ 29791)
 cells-room n f =
-    let x = product-le (n .nu - 1) (n .nv - 1) 32 32 (omega (arith, f .u-most)) (omega (arith, f .v-most)) in
-    (x, product-le ((n .nu - 1) * (n .nv - 1)) (n .nw - 1) 1024 32 x (omega (arith, f .w-most)))
+    let x = product-le (n .nu - 1) (n .nv - 1) 31 31 (omega (arith, f .u-most)) (omega (arith, f .v-most)) in
+    (x, product-le ((n .nu - 1) * (n .nv - 1)) (n .nw - 1) 961 31 x (omega (arith, f .w-most)))
+
+pub cells-most : (n : Sides) → SidesFit n → cells n ≤ 29791
+unfolding cells
+cells-most n f = cells-room n f .1
 
 -- ---- numbers and coordinates
 

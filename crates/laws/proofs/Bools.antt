@@ -7,7 +7,7 @@ use Prim.Native.Nat.{ℕ, zero, suc, _≤_, _+_, _*_}
 use native.Mathlib.Omega.{arith}
 use lib.Dec.{T, eqb}
 use lib.ListN.{length}
-use Rattle.laws.specs.Bools.{bit, allBools}
+use Rattle.laws.specs.Bools.{bit, Tells, allBools}
 
 -- ---- conjunctions
 
@@ -54,6 +54,13 @@ pub bool-ext : (a b : Bool) → (a ≡ true → b ≡ true) → (b ≡ true → 
 bool-ext true b f g = sym (f refl)
 bool-ext false true f g = g refl
 bool-ext false false f g = refl
+
+-- a question has one answer
+pub tells-unique : (P : Type 0) (a b : Bool) → Tells P a → Tells P b → a ≡ b
+tells-unique P true true p q = refl
+tells-unique P true false p q = absurd (q p)
+tells-unique P false true p q = absurd (p q)
+tells-unique P false false p q = refl
 
 pub beq→eq : (a b : Bool) → T (Bool·beq a b) → a ≡ b
 beq→eq true true t = refl

@@ -1,16 +1,17 @@
 -- A list of couples that cancel has as many pairs p to q as q to p, whatever names its ends are given; lists with equal counts have equal sums. Assumes nothing.
-use mathlib.Core.Path.{_≡_, refl, sym, ap, ap₂, _∙_}
+use mathlib.Core.Path.{_≡_, refl, ap, ap₂, _∙_}
 use mathlib.Core.Bool.{Bool, true, false, _&&_, cond, and-comm}
 use mathlib.Core.List.{List, [], _∷_, map}
-use Prim.Native.Nat.{ℕ, _+_, _<_}
+use Prim.Native.Nat.{ℕ, _+_}
 use native.Mathlib.Omega.{arith}
 use borrow.Author.Tests.{eqb-true, eq-eqb}
 use lib.Dec.{T, eqb, eqb→eq}
 use Rattle.laws.specs.Bools.{bit}
-use Rattle.laws.specs.Lists.{count}
-use Rattle.laws.specs.Couples.{Pair, turn, onBoth, fromTo, against, push, left, isNil, cancels, weigh}
+use Rattle.laws.specs.Lists.{count, weigh}
+use Rattle.laws.specs.Couples.{Pair, turn, onBoth, fromTo, against, push, left, isNil, cancels}
 use Rattle.laws.proofs.Bools.{and-left, and-right, and-apart, and-yes}
 use Rattle.laws.proofs.Lists.{count-map, count-same}
+use Rattle.laws.proofs.Weighing.{weigh-same}
 
 pub from-ends : (p q : ℕ) (x : Pair) → fromTo p q x ≡ true → (x .0 ≡ p) × (x .1 ≡ q)
 unfolding fromTo
@@ -71,50 +72,19 @@ module _ (h : ℕ → ℕ) where
 
 -- ---- two lists with the same counts have the same sum, whatever is added, if its order does not matter
 
-from-eq : (x y : Pair) → fromTo (x .0) (x .1) y ≡ true → y ≡ x
+like : Pair → Pair → Bool
+like x = fromTo (x .0) (x .1)
+
+from-eq : (x y : Pair) → like x y ≡ true → y ≡ x
+unfolding like
 from-eq x y e = let r = from-ends (x .0) (x .1) y e in ap₂ {C = Pair} (λ (a b : ℕ). (a, b)) (r .0) (r .1)
 
-from-self : (x : Pair) → bit (fromTo (x .0) (x .1) x) ≡ 1
-unfolding bit
-from-self x = ap bit (ends-from (x .0) (x .1) x refl refl)
-
--- the first x taken out
-without : Pair → List Pair → List Pair
-without x [] = []
-without x (y ∷ ys) = cond (fromTo (x .0) (x .1) y) ys (y ∷ without x ys)
-
-without-count : (x : Pair) (l : List Pair) → 0 < count (fromTo (x .0) (x .1)) l
-    → (p q : ℕ) → count (fromTo p q) l ≡ bit (fromTo p q x) + count (fromTo p q) (without x l)
-unfolding without count bit
-without-count x [] h p q = absurd (omega arith)
-without-count x (y ∷ l) h p q = go (fromTo (x .0) (x .1) y) refl (λ m. without-count x l m p q)
-  where
-    go : (b : Bool) → fromTo (x .0) (x .1) y ≡ b → (0 < count (fromTo (x .0) (x .1)) l → count (fromTo p q) l ≡ bit (fromTo p q x) + count (fromTo p q) (without x l))
-        → bit (fromTo p q y) + count (fromTo p q) l ≡ bit (fromTo p q x) + count (fromTo p q) (cond b l (y ∷ without x l))
-    go true e k = ap (λ (z : Pair). bit (fromTo p q z) + count (fromTo p q) l) (from-eq x y e)
-    go false e k = omega (arith, k (omega (arith, ap bit e)))
+from-self : (x : Pair) → like x x ≡ true
+unfolding like
+from-self x = ends-from (x .0) (x .1) x refl refl
 
 module _ {A : Type 0} (add : A → A → A) (nought : A) (assoc : (a b c : A) → add (add a b) c ≡ add a (add b c)) (comm : (a b : A) → add a b ≡ add b a)
     (f : Pair → A) where
-  without-weigh : (x : Pair) (l : List Pair) → 0 < count (fromTo (x .0) (x .1)) l → weigh add nought f l ≡ add (f x) (weigh add nought f (without x l))
-  unfolding weigh without count bit
-  without-weigh x [] h = absurd (omega arith)
-  without-weigh x (y ∷ l) h = go (fromTo (x .0) (x .1) y) refl (λ m. without-weigh x l m)
-    where
-      rest : A
-      rest = weigh add nought f (without x l)
-
-      go : (b : Bool) → fromTo (x .0) (x .1) y ≡ b → (0 < count (fromTo (x .0) (x .1)) l → weigh add nought f l ≡ add (f x) rest)
-          → add (f y) (weigh add nought f l) ≡ add (f x) (weigh add nought f (cond b l (y ∷ without x l)))
-      go true e k = ap (λ (z : Pair). add (f z) (weigh add nought f l)) (from-eq x y e)
-      go false e k =
-          ap (add (f y)) (k (omega (arith, ap bit e)))
-          ∙ sym (assoc (f y) (f x) rest) ∙ ap (λ (a : A). add a rest) (comm (f y) (f x)) ∙ assoc (f x) (f y) rest
-
   pub same-weigh : (l m : List Pair) → ((p q : ℕ) → count (fromTo p q) l ≡ count (fromTo p q) m) → weigh add nought f l ≡ weigh add nought f m
-  unfolding weigh count
-  same-weigh [] [] e = refl
-  same-weigh [] (y ∷ m) e = absurd (omega (arith, e (y .0) (y .1), from-self y))
-  same-weigh (x ∷ l) m e =
-      let h : 0 < count (fromTo (x .0) (x .1)) m = omega (arith, e (x .0) (x .1), from-self x) in
-      ap (add (f x)) (same-weigh l (without x m) (λ p q. omega (arith, e p q, without-count x m h p q))) ∙ sym (without-weigh x m h)
+  unfolding like
+  same-weigh l m e = weigh-same like from-eq from-self add nought assoc comm f l m (λ x. e (x .0) (x .1))

@@ -1,18 +1,18 @@
 -- Laws of lists: what passes a test, counts, joined lists, sums over a list, and what holds of every member. Assumes nothing.
 use mathlib.Core.Path.{_≡_, refl, sym, ap, ap₂, _∙_}
-use mathlib.Core.Bool.{Bool, true, false, _&&_, cond, false≢true}
+use mathlib.Core.Bool.{Bool, true, false, _&&_, cond, and-false, and-assoc, false≢true}
 use mathlib.Core.List.{List, [], _∷_, _++_, map, append-assoc}
 use Prim.Native.Nat.{ℕ, zero, suc, _+_, _-_, _*_, _≤_, _<_}
 use native.Mathlib.Nat.{not-suc-le-zero, le-of-suc-le-suc}
 use native.Mathlib.Numerals.{add-one}
 use native.Mathlib.Omega.{arith}
 use lib.Dec.{T, eqb, ltb}
-use borrow.Author.Tests.{eqb-true}
+use borrow.Author.Tests.{eqb-true, ltb-true, lt-ltb}
 use lib.ListN.{length, getD, set, take, drop, replicate, length-map}
 use lib.Seq.{take-suc, take-suc-set, drop-cons, getD-at, set-at, length-take-le, take-at, drop-at}
-use Rattle.laws.specs.Bools.{bit}
+use Rattle.laws.specs.Bools.{bit, Tells}
 use Rattle.laws.specs.Lists.{keep, count, every, joined, total, All}
-use Rattle.laws.proofs.Bools.{bit-le, bit-T, and-left, and-right, T-true}
+use Rattle.laws.proofs.Bools.{bit-le, bit-T, and-left, and-right, T-true, true-T}
 
 -- ---- those that pass a test
 
@@ -231,6 +231,23 @@ module _ {A : Type 0} where
   unfolding All every
   every-all p [] t = tt
   every-all p (x ∷ xs) t = (T-true (p x) (and-left (p x) (every p xs) t), every-all p xs (and-right (p x) (every p xs) t))
+
+  pub all-every : (p : A → Bool) (xs : List A) → All (λ x. p x ≡ true) xs → every p xs ≡ true
+  unfolding All every
+  all-every p [] a = refl
+  all-every p (x ∷ xs) a = rw (a .0) (all-every p xs (a .1))
+
+  -- one that fails is enough
+  pub every-false : (d : A) (p : A → Bool) (xs : List A) (k : ℕ) → k < length xs → p (getD xs k d) ≡ false → every p xs ≡ false
+  unfolding every
+  every-false d p [] k h e = absurd (not-suc-le-zero h)
+  every-false d p (x ∷ xs) zero h e = rw e
+  every-false d p (x ∷ xs) (suc k) h e = ap (λ (b : Bool). p x && b) (every-false d p xs k (le-of-suc-le-suc h) e) ∙ and-false (p x)
+
+  pub every-append : (p : A → Bool) (xs ys : List A) → every p (xs ++ ys) ≡ every p xs && every p ys
+  unfolding every
+  every-append p [] ys = refl
+  every-append p (x ∷ xs) ys = ap (λ (b : Bool). p x && b) (every-append p xs ys) ∙ sym (and-assoc (p x) (every p xs) (every p ys))
 
   -- where some pass a test, there is one, and it has what all have
   pub count-witness : (p : A → Bool) (P : A → Type 0) (xs : List A) → All P xs → 0 < count p xs → (x : A) × (p x ≡ true) × P x
@@ -455,3 +472,12 @@ count-key p e (d ∷ l) = go (p d) (p e) (eqb e d) refl refl refl (count-key p e
 -- a list without repeats gives a once where it has k, and never else
 pub total-once : (ks : List ℕ) (k a : ℕ) → count (eqb k) ks ≤ 1 → total (λ j. cond (eqb k j) a 0) ks ≡ cond (ltb 0 (count (eqb k) ks)) a 0
 total-once ks k a h = total-times ks k a ∙ once-or-not (count (eqb k) ks) a h
+
+-- whether all numbers of a list are below v, as a test
+pub every-below : (v : ℕ) (l : List ℕ) (r : Bool) → Tells (All (λ x. x < v) l) r → r ≡ every (λ x. ltb x v) l
+every-below v l true a = sym (all-every (λ x. ltb x v) l (all-map (λ x. x < v) (λ x. ltb x v ≡ true) (λ x h. lt-ltb x v h) l a))
+every-below v l false n = go (every (λ x. ltb x v) l) refl
+  where
+    go : (b : Bool) → every (λ x. ltb x v) l ≡ b → false ≡ every (λ x. ltb x v) l
+    go true e = absurd (n (all-map (λ x. ltb x v ≡ true) (λ x. x < v) (λ x h. ltb-true x v h) l (every-all (λ x. ltb x v) l (true-T (every (λ x. ltb x v) l) e))))
+    go false e = sym e

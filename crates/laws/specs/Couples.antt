@@ -39,9 +39,3 @@ isNil (x ∷ xs) = false
 -- every pair of the list is struck out
 unfoldable pub cancels : List Pair → Bool
 cancels l = isNil (left [] l)
-
--- the sum of f over the pairs, whatever it is to add
-module _ {A : Type 0} (add : A → A → A) (nought : A) (f : Pair → A) where
-  unfoldable pub weigh : List Pair → A
-  weigh [] = nought
-  weigh (x ∷ xs) = add (f x) (weigh xs)

@@ -6,3 +6,5 @@ pub mod Digits
 pub mod Written
 pub mod Filling
 pub mod Couples
+pub mod Triangles
+pub mod Ints

@@ -33,3 +33,9 @@ module _ {A : Type 0} where
   unfoldable pub All : (A → Type 0) → List A → Type 0
   All P [] = Unit {0}
   All P (x ∷ xs) = P x × All P xs
+
+-- the sum of f over the members, whatever it is to add
+module _ {A B : Type 0} (add : A → A → A) (nought : A) (f : B → A) where
+  unfoldable pub weigh : List B → A
+  weigh [] = nought
+  weigh (x ∷ xs) = add (f x) (weigh xs)

@@ -13,9 +13,11 @@ use borrow.Author.Tests.{eqb-true, eq-eqb, ltb-true, lt-ltb}
 use Rattle.laws.specs.Bools.{bit}
 use Rattle.laws.specs.Lists.{count}
 use Rattle.laws.specs.Couples.{Pair, fromTo}
+use Rattle.laws.specs.Triangles.{Tri, flat, trisOf, sidesOf}
 use Rattle.laws.proofs.Bools.{and-apart, or-apart, bool-ext, bit-or, bit-T, T-true}
 use Rattle.laws.proofs.Lists.{count-append, count-same, count-find}
 use Rattle.laws.proofs.Ranges.{each-one-length, each-one-at}
+use Rattle.laws.proofs.Triangles.{tris-flat}
 use Rattle.pairs.specs.declared.Rec.{Rec}
 use Rattle.pairs.specs.Records.{none}
 use Rattle.pairs.specs.Sides.{directed, dirCount, joins, pairCount, next, over, overFlags, sideOf, numbered, sides}
@@ -46,6 +48,17 @@ directed-at (u ∷ v ∷ w ∷ s) (suc zero) h = refl
 directed-at (u ∷ v ∷ w ∷ s) (suc (suc zero)) h = refl
 directed-at (u ∷ v ∷ w ∷ s) (suc (suc (suc k))) h =
     directed-at s k (omega arith) ∙ ap (λ (j : ℕ). (getD s k 0, getD (u ∷ v ∷ w ∷ s) j 0)) (sym (next-three k))
+
+-- the directed sides are those of the list's triangles
+pub directed-tris : (s : List ℕ) → directed s ≡ sidesOf (trisOf s)
+unfolding directed sidesOf trisOf
+directed-tris [] = refl
+directed-tris (u ∷ []) = refl
+directed-tris (u ∷ v ∷ []) = refl
+directed-tris (u ∷ v ∷ w ∷ s) = ap (λ (l : List Pair). (u, v) ∷ (v, w) ∷ (w, u) ∷ l) (directed-tris s)
+
+pub flat-directed : (ts : List Tri) → directed (flat ts) ≡ sidesOf ts
+flat-directed ts = directed-tris (flat ts) ∙ ap sidesOf (tris-flat ts)
 
 -- whole triangles, and then more
 pub directed-append : (s t : List ℕ) → length s % 3 ≡ 0 → directed (s ++ t) ≡ directed s ++ directed t

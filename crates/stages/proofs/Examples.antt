@@ -9,9 +9,10 @@ use Rattle.laws.specs.Bools.{bit}
 use Rattle.laws.specs.Ranges.{each, any, sum}
 use Rattle.laws.specs.Lists.{keep, count, joined}
 use Rattle.laws.specs.Digits.{digit, isSet, mask}
+use Rattle.laws.specs.Triangles.{flat, sidesOf}
 use Rattle.tables.specs.Edges.{corners, cornerOf, labelTo, du, dv, dw, areNeighbours, neighbourMask}
 use Rattle.tables.specs.Tets.{tetLabel, tetCorner, tetPairs, tetPair, edgeOf, edgeIn}
-use Rattle.tables.specs.Cases.{flat, sidesOf, mtTable, mtRow}
+use Rattle.tables.specs.Cases.{mtTable, mtRow}
 use Rattle.tables.specs.FlatHoles.{holeOf, flatHoles, flatHole}
 use Rattle.sides.specs.Sides.{base, inside, finite, whenFinite, markFraction, pointFraction, crossing, isNear}
 use Rattle.lattice.specs.declared.Sides.{Sides}

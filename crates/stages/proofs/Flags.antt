@@ -3,7 +3,7 @@ use mathlib.Core.Path.{_≡_, refl, ap, sym, _∙_}
 use mathlib.Core.Logic.{_≢_}
 use mathlib.Core.Bool.{Bool, true, false, not, _&&_, _||_, false≢true}
 use mathlib.Core.List.{List, [], _∷_}
-use Prim.Native.Nat.{ℕ, zero, suc, _+_, _*_, _/_, _%_, _<_}
+use Prim.Native.Nat.{ℕ, _+_, _*_, _/_, _%_, _<_}
 use native.Mathlib.Omega.{arith}
 use lib.Dec.{T, eqb, ltb, eqb→eq}
 use borrow.Author.Tests.{ltb-true, lt-ltb, eqb-true, eq-eqb}
@@ -15,15 +15,15 @@ use Rattle.laws.specs.Bools.{allBools, bit}
 use Rattle.laws.specs.Ranges.{any}
 use Rattle.laws.specs.Lists.{All, count, keep}
 use Rattle.laws.specs.Couples.{Pair, fromTo}
-use Rattle.tables.specs.Cases.{Tri, flat, sidesOf}
+use Rattle.laws.specs.Triangles.{Tri, flat, sidesOf}
 use Rattle.tets.specs.March.{proper}
 use Rattle.tets.specs.Runs.{runs, touches}
-use Rattle.tets.proofs.Flat.{flat-length}
 use Rattle.pairs.specs.Sides.{directed, joins, next, pairCount}
 use Rattle.laws.proofs.Bools.{and-apart, bool-ext, bools-at}
 use Rattle.laws.proofs.Ranges.{any-one, any-same, any-some}
 use Rattle.laws.proofs.Lists.{all-member, count-find, count-kept, count-some}
-use Rattle.pairs.proofs.Sides.{directed-at, directed-length}
+use Rattle.laws.proofs.Triangles.{flat-length, flat-at}
+use Rattle.pairs.proofs.Sides.{directed-at, directed-length, flat-directed}
 use Rattle.pairs.specs.Sides as pairs
 
 -- ---- some member passes a test
@@ -118,25 +118,6 @@ module _ (p q : ℕ) (ne : p ≢ q) where
 abbrev pub nowhere : Tri
 nowhere = (0, 0, 0)
 
--- corner j of triangle k
-flat-at : (ts : List Tri) (k : ℕ) → k < length ts
-    → (getD (flat ts) (3 * k) 0 ≡ getD ts k nowhere .0) × (getD (flat ts) (3 * k + 1) 0 ≡ getD ts k nowhere .1) × (getD (flat ts) (3 * k + 2) 0 ≡ getD ts k nowhere .2)
-unfolding flat
-flat-at [] k h = let z : ⊥ = omega arith in absurd z
-flat-at (t ∷ ts) zero h = (refl, refl, refl)
-flat-at (t ∷ ts) (suc k) h =
-    let r = flat-at ts k (omega arith) in
-    let a : 3 * suc k ≡ suc (suc (suc (3 * k))) = omega arith in
-    let b : 3 * suc k + 1 ≡ suc (suc (suc (3 * k + 1))) = omega arith in
-    let c : 3 * suc k + 2 ≡ suc (suc (suc (3 * k + 2))) = omega arith in
-    let l = t .0 ∷ t .1 ∷ t .2 ∷ flat ts in
-    (ap (λ (j : ℕ). getD l j 0) a ∙ r .0, ap (λ (j : ℕ). getD l j 0) b ∙ r .1, ap (λ (j : ℕ). getD l j 0) c ∙ r .2)
-
-flat-directed : (ts : List Tri) → directed (flat ts) ≡ sidesOf ts
-unfolding directed flat sidesOf
-flat-directed [] = refl
-flat-directed (t ∷ ts) = ap (λ (l : List Pair). (t .0, t .1) ∷ (t .1, t .2) ∷ (t .2, t .0) ∷ l) (flat-directed ts)
-
 sides-apart : (ts : List Tri) → All (λ t. proper t ≡ true) ts → All (λ p. p .0 ≢ p .1) (sidesOf ts)
 unfolding All sidesOf
 sides-apart [] h = tt
@@ -180,7 +161,7 @@ module _ (ts : List Tri) (P : All (λ t. proper t ≡ true) ts) where
   unfolding bad next
   bad-is t h =
       let x = getD ts t nowhere in
-      let c = flat-at ts t h in
+      let c = flat-at nowhere ts t h in
       let l : 3 * t + 2 < length (flat ts) = omega (arith, flat-length ts) in
       let n0 : 3 * t / 3 * 3 + (3 * t + 1) % 3 ≡ 3 * t + 1 = omega arith in
       let n1 : (3 * t + 1) / 3 * 3 + (3 * t + 1 + 1) % 3 ≡ 3 * t + 2 = omega arith in
@@ -204,5 +185,5 @@ module _ (ts : List Tri) (P : All (λ t. proper t ≡ true) ts) where
       some-keep f (bad ts) ts
       ∙ some-any nowhere (λ t. bad ts t && f t) ts
       ∙ any-same (length ts) (λ t. bad ts (getD ts t nowhere) && f (getD ts t nowhere)) _
-      (λ t h. let c = flat-at ts t h in
+      (λ t h. let c = flat-at nowhere ts t h in
       λ i. bad-is t h i && (clusterOf vs s (sym (c .0) i) || clusterOf vs s (sym (c .1) i) || clusterOf vs s (sym (c .2) i)))

@@ -6,7 +6,7 @@ use lib.Dec.{eqb, ltb}
 use lib.ListN.{length}
 use Rattle.laws.specs.Ranges.{each}
 use Rattle.laws.specs.Lists.{count}
-use Rattle.tables.specs.Cases.{Tri}
+use Rattle.laws.specs.Triangles.{Tri}
 use Rattle.lattice.specs.Sites.{sites}
 use Rattle.tets.specs.March.{Field, none, march}
 use Rattle.stages.specs.Boxes.{Box}

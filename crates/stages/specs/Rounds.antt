@@ -6,7 +6,7 @@ use Prim.Native.Nat.{ℕ, zero, suc}
 use lib.Dec.{eqb, ltb}
 use lib.ListN.{getD}
 use Rattle.laws.specs.Lists.{keep, count, joined}
-use Rattle.tables.specs.Cases.{Tri}
+use Rattle.laws.specs.Triangles.{Tri}
 use Rattle.lattice.specs.Sites.{sites}
 use Rattle.stages.specs.Boxes.{Box}
 use Rattle.stages.specs.Vertices.{Vertex, nobody, several, apart}

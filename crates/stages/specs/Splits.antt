@@ -6,7 +6,7 @@ use Prim.Native.Nat.{ℕ, suc, _+_}
 use lib.Dec.{eqb, ltb}
 use Rattle.laws.specs.Lists.{keep, count}
 use Rattle.laws.specs.Couples.{Pair}
-use Rattle.tables.specs.Cases.{Tri, sidesOf}
+use Rattle.laws.specs.Triangles.{Tri, sidesOf}
 use Rattle.tets.specs.Runs.{touches}
 use Rattle.stages.specs.Boxes.{Box}
 use Rattle.stages.specs.Vertices.{Vertex, several, apart, candidates}

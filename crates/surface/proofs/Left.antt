@@ -1,8 +1,8 @@
 -- Demand 3 of the lists that a build leaves: every crossed edge is named once by the edge table, the held counts of the vertex book add up to the crossings,
 -- and as many triangles of the triangle list run from a vertex to another as back. Assumes nothing.
-use mathlib.Core.Path.{_≡_, refl, sym, ap, _∙_}
+use mathlib.Core.Path.{_≡_, sym, ap, _∙_, subst}
 use mathlib.Core.Bool.{Bool, true}
-use mathlib.Core.List.{List, [], _∷_, _++_}
+use mathlib.Core.List.{List, _++_}
 use Prim.Native.Nat.{ℕ, _+_, _*_, _<_}
 use native.Mathlib.Omega.{arith}
 use lib.Dec.{eqb}
@@ -10,13 +10,13 @@ use lib.ListN.{length, getD, take, drop, List·getD-append}
 use lib.Seq.{take-append-seam}
 use Rattle.laws.specs.Ranges.{sum}
 use Rattle.laws.specs.Lists.{count}
+use Rattle.laws.specs.Triangles.{Tri, flat, trisOf, Balanced}
 use Rattle.laws.proofs.Sums.{sum-same}
-use Rattle.tables.specs.Cases.{Tri, flat}
+use Rattle.laws.proofs.Triangles.{flat-length, flat-same, tris-flat}
 use Rattle.lattice.specs.Sites.{SidesFit, sites}
 use Rattle.marks.specs.Marks.{crossedCount, isCrossed}
 use Rattle.tets.specs.March.{none}
 use Rattle.tets.specs.Runs.{runs}
-use Rattle.tets.proofs.Flat.{flat-length}
 use Rattle.stages.specs.Meshes.{bookOf, meshOf, tableOf}
 use Rattle.stages.specs.Rounds.{built}
 use Rattle.stages.specs.Samples.{boxOf, AllFinite}
@@ -31,19 +31,7 @@ use Rattle.build.proofs.Answering.{order-granted}
 use Rattle.build.proofs.Fronts.{is-done, is-written}
 use Rattle.surface.specs.Border.{OneSide}
 use Rattle.surface.specs.Left.{Left}
-use Rattle.surface.proofs.Surface.{built-closed}
-
--- a flat list has the triangles that it was made of
-flat-same : (ts us : List Tri) → flat ts ≡ flat us → ts ≡ us
-unfolding flat
-flat-same [] [] e = refl
-flat-same [] (u ∷ us) e = let z : ⊥ = omega (arith, ap length e) in absurd z
-flat-same (t ∷ ts) [] e = let z : ⊥ = omega (arith, ap length e) in absurd z
-flat-same (t ∷ ts) (u ∷ us) e =
-    let x : t .0 ≡ u .0 = ap (λ (l : List ℕ). getD l 0 0) e in
-    let y : t .1 ≡ u .1 = ap (λ (l : List ℕ). getD l 1 0) e in
-    let z : t .2 ≡ u .2 = ap (λ (l : List ℕ). getD l 2 0) e in
-    λ i. (x i, y i, z i) ∷ flat-same ts us (ap (drop 3) e) i
+use Rattle.surface.proofs.Surface.{built-closed, stage-balanced}
 
 module _ (o : Order) (t k tr : List ℕ) (z : Answer) (t′ k′ tr′ : List ℕ) (D : Left o t k tr z t′ k′ tr′) (F : AllFinite (o .sides) (o .samples)) where
   fit : SidesFit (o .sides)
@@ -90,14 +78,23 @@ module _ (o : Order) (t k tr : List ℕ) (z : Answer) (t′ k′ tr′ : List �
       low : 7 * s + l < length (orderTable o)
       low = omega (arith, table-length (orderBox o) (orderVertices o), hs, hl)
 
-  -- AS MANY TRIANGLES RUN ONE WAY AS THE OTHER
-  pub left-closed : (side : Bool) → OneSide (o .sides) (o .samples) (o .threshold) side → (ts : List Tri) → take (3 * z .triangles) tr′ ≡ flat ts → (p q : ℕ)
-      → count (runs p q) ts ≡ count (runs q p) ts
-  unfolding orderVertices orderBox doneAnswer
-  left-closed side B ts e p q =
-      let b = boxOf (o .sides) (o .samples) (o .threshold) (eqb (o .method) 1) in
-      let m = meshOf b (built b (o .rounds)) in
-      let n : 3 * z .triangles ≡ length (flat m) = ap (λ (y : Answer). 3 * y .triangles) done ∙ omega (arith, flat-length m) in
-      let w : take (3 * z .triangles) tr′ ≡ flat m = (λ i. take (n i) (triangles-are i)) ∙ take-append-seam (flat m) (drop (length (flat m)) tr) in
-      let same : ts ≡ m = flat-same ts m (sym e ∙ w) in
-      ap (count (runs p q)) same ∙ built-closed (o .sides) (o .samples) (o .threshold) (eqb (o .method) 1) side fit F B (o .rounds) p q ∙ ap (count (runs q p)) (sym same)
+  -- THE TRIANGLE LIST BEGINS WITH THE SURFACE'S TRIANGLES
+  pub left-triangles : take (3 * z .triangles) tr′ ≡ orderTriangles o
+  unfolding doneAnswer
+  left-triangles =
+      let n : 3 * z .triangles ≡ length (orderTriangles o) = ap (λ (y : Answer). 3 * y .triangles) done ∙ omega (arith, flat-length (meshOf (orderBox o) (orderVertices o))) in
+      (λ i. take (n i) (triangles-are i)) ∙ take-append-seam (orderTriangles o) (drop (length (orderTriangles o)) tr)
+
+  module _ (side : Bool) (B : OneSide (o .sides) (o .samples) (o .threshold) side) where
+    -- AS MANY TRIANGLES RUN ONE WAY AS THE OTHER
+    pub left-closed : (ts : List Tri) → take (3 * z .triangles) tr′ ≡ flat ts → (p q : ℕ) → count (runs p q) ts ≡ count (runs q p) ts
+    unfolding orderVertices orderBox
+    left-closed ts e p q =
+        let same : ts ≡ meshOf (orderBox o) (orderVertices o) = flat-same ts (meshOf (orderBox o) (orderVertices o)) (sym e ∙ left-triangles) in
+        ap (count (runs p q)) same ∙ built-closed (o .sides) (o .samples) (o .threshold) (eqb (o .method) 1) side fit F B (o .rounds) p q ∙ ap (count (runs q p)) (sym same)
+
+    pub left-balanced : Balanced (trisOf (take (3 * z .triangles) tr′))
+    unfolding orderVertices orderBox
+    left-balanced =
+        subst Balanced (sym (ap trisOf left-triangles ∙ tris-flat (meshOf (orderBox o) (orderVertices o))))
+        (stage-balanced (o .sides) (o .samples) (o .threshold) (eqb (o .method) 1) side fit F B (built-stage (boxOf (o .sides) (o .samples) (o .threshold) (eqb (o .method) 1)) (o .rounds)))

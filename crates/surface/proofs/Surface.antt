@@ -7,6 +7,7 @@ use mathlib.Core.List.{List, []}
 use Prim.Native.Nat.{ℕ, _<_}
 use lib.Ieee.{Float}
 use Rattle.laws.specs.Lists.{count}
+use Rattle.laws.specs.Triangles.{Balanced}
 use Rattle.lattice.specs.declared.Sides.{Sides}
 use Rattle.lattice.specs.Sites.{SidesFit, sites, inBox, siteOf}
 use Rattle.lattice.proofs.Sites.{site-lt}
@@ -23,7 +24,7 @@ use Rattle.stages.specs.Stages.{Stage}
 use Rattle.stages.proofs.Stages.{built-stage}
 use Rattle.stages.proofs.Crossed.{crossed-is, crossed-label, march-named}
 use Rattle.closed.specs.Fit.{Fit}
-use Rattle.closed.proofs.Balance.{balance}
+use Rattle.closed.proofs.Balance.{balance, march-even}
 use Rattle.surface.specs.Border.{OneSide}
 
 module _ (n : Sides) (S : List Float) (h : Float) (cluster : Bool) (o : Bool) (f : SidesFit n) (F : AllFinite n S) (B : OneSide n S h o) where
@@ -40,6 +41,11 @@ module _ (n : Sides) (S : List Float) (h : Float) (cluster : Bool) (o : Bool) (f
       → count (runs p q) (meshOf (boxOf n S h cluster) vs) ≡ count (runs q p) (meshOf (boxOf n S h cluster) vs)
   unfolding meshOf
   stage-closed {vs} st p q = balance (fieldOf (boxOf n S h cluster) vs) o (stage-fit st) p q
+
+  -- the same of their sides: those that run from p to q are as many as those that run back
+  pub stage-balanced : {vs : List Vertex} → Stage (boxOf n S h cluster) vs → Balanced (meshOf (boxOf n S h cluster) vs)
+  unfolding meshOf
+  stage-balanced {vs} st = record { even = march-even (fieldOf (boxOf n S h cluster) vs) o (stage-fit st) }
 
   pub built-closed : (R p q : ℕ)
       → count (runs p q) (meshOf (boxOf n S h cluster) (built (boxOf n S h cluster) R)) ≡ count (runs q p) (meshOf (boxOf n S h cluster) (built (boxOf n S h cluster) R))

@@ -3,10 +3,11 @@
 ghost use mathlib.Core.Path.{_≡_};
 ghost use Prim.Native.Nat.{suc, _<_};
 ghost use lib.ListN.{length, getD};
+ghost use Rattle.laws.specs.Triangles.{flat};
 ghost use Rattle.tables.specs.Edges.{delta, reverse, neighbourMask, cornerOf};
 ghost use Rattle.tables.specs.FlatHoles.{flatHole};
 ghost use Rattle.tables.specs.Tets.{tetLabel, tetCorner, tetPair, edgeIn};
-ghost use Rattle.tables.specs.Cases.{mtRow, flat};
+ghost use Rattle.tables.specs.Cases.{mtRow};
 
 // The number of edges at a site, and of those that it owns.
 pub const EDGES: usize = 14;

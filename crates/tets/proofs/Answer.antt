@@ -5,11 +5,11 @@ use Prim.Native.Nat.{ℕ, _+_, _*_, _≤_}
 use native.Mathlib.Omega.{arith}
 use lib.ListN.{length, drop}
 use Rattle.laws.specs.Written.{Written}
+use Rattle.laws.specs.Triangles.{flat}
 use Rattle.laws.proofs.Written.{written-plain, written-unique}
-use Rattle.tables.specs.Cases.{flat}
+use Rattle.laws.proofs.Triangles.{flat-length}
 use Rattle.lattice.specs.Sites.{cells}
 use Rattle.tets.specs.March.{Field, march}
-use Rattle.tets.proofs.Flat.{flat-length}
 use Rattle.tets.proofs.March.{march-le}
 
 -- the triangles first, then the entries that were there; as many as the definition has, and at most twelve a cell

@@ -11,11 +11,12 @@ use lib.Ieee.{Float, nan}
 use Rattle.laws.specs.Bools.{bit, allBools}
 use Rattle.laws.specs.Ranges.{each, all, sum}
 use Rattle.laws.specs.Lists.{keep}
+use Rattle.laws.specs.Triangles.{Tri}
 use Rattle.laws.proofs.Bools.{bit-le, bools-at}
 use Rattle.laws.proofs.Ranges.{all-at, all-at2, each-one-at, each-one-length, each-nil, each-same}
 use Rattle.tables.specs.Edges.{du, dv, dw, cornerOf}
 use Rattle.tables.specs.Tets.{tetLabel, tetCorner, edgeIn}
-use Rattle.tables.specs.Cases.{Tri, mtRow}
+use Rattle.tables.specs.Cases.{mtRow}
 use Rattle.tables.proofs.Cases.{mt-none, mt-all}
 use Rattle.sides.specs.declared.Sample.{Sample}
 use Rattle.sides.specs.declared.Sample.the-variants.{Missing, Value}

@@ -12,13 +12,14 @@ use lib.Ieee.{Float}
 use Rattle.laws.specs.Bools.{bit, allBools}
 use Rattle.laws.specs.Ranges.{each, all}
 use Rattle.laws.specs.Lists.{keep, All}
+use Rattle.laws.specs.Triangles.{Tri}
 use Rattle.laws.proofs.Bools.{and-left, and-right, and-apart, and-yes, bools-at, T-true}
 use Rattle.laws.proofs.Ranges.{lt-or, each-same, each-map, each-keep, each-all, all-at}
 use Rattle.laws.proofs.Lists.{keep-map, keep-keep, keep-le, all-kept, all-map, all-under, map-agree}
 use Rattle.tables.specs.Edges.{du, dv, dw, cornerOf}
 use Rattle.tables.specs.Tets.{tetLabel, tetCorner, tetPair, tetPairs, edgeOf, edgeIn}
 use Rattle.tables.specs.Edges.{labelTo}
-use Rattle.tables.specs.Cases.{Tri, mtRow}
+use Rattle.tables.specs.Cases.{mtRow}
 use Rattle.tables.proofs.Cases.{mt-none}
 use Rattle.tables.proofs.Edges.{steps-lt}
 use Rattle.lattice.specs.declared.Sides.{Sides}

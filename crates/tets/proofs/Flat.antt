@@ -3,7 +3,7 @@ use mathlib.Core.Path.{_≡_, refl, sym, ap, ap₂, _∙_, fun-ext}
 use mathlib.Core.Bool.{Bool, true, false, not, _&&_, _||_, cond, or-true}
 use mathlib.Core.List.{List, [], _∷_, _++_, map, map-map}
 use Prim.Native.Nat.{ℕ, zero, suc, _+_, _*_, _/_, _%_, _≤_, _<_}
-use native.Mathlib.Nat.{not-suc-le-zero, ne-of-lt, mul-le-mul-left}
+use native.Mathlib.Nat.{not-suc-le-zero, ne-of-lt, mul-le-mul-left, add-zero}
 use native.Mathlib.Omega.{arith}
 use lib.Dec.{eqb, lit<, lit≤}
 use borrow.Author.Tests.{eq-eqb, ne-eqb}
@@ -11,12 +11,13 @@ use borrow.Author.Count.{below-more}
 use lib.ListN.{length, getD, set}
 use lib.Seq.{getD-set-same, getD-set-other}
 use lib.Ieee.{Float}
-use Rattle.laws.specs.Ranges.{each}
 use Rattle.laws.specs.Lists.{keep, joined}
+use Rattle.laws.specs.Triangles.{Tri, flat}
 use Rattle.laws.proofs.Ranges.{each-same, each-list, each-map, each-keep, each-le}
+use Rattle.laws.proofs.Triangles.{flat-each, flat-at}
 use Rattle.tables.specs.Edges.{du, dv, dw}
 use Rattle.tables.specs.Tets.{edgeIn}
-use Rattle.tables.specs.Cases.{Tri, flat, mtRow}
+use Rattle.tables.specs.Cases.{mtRow}
 use Rattle.tables.proofs.Edges.{steps-lt}
 use Rattle.tables.proofs.Cases.{mt-two}
 use Rattle.lattice.specs.declared.Sides.{Sides}
@@ -28,47 +29,7 @@ use Rattle.tets.specs.Samples.{caseOn}
 use Rattle.tets.specs.Lists.{fieldOf}
 use Rattle.tets.specs.Loop.{shown, lookUp, cornerAt, triAt, tetFlat, cellFlat, InTable}
 
--- ---- flat lists
-
-pub flat-append : (s t : List Tri) → flat (s ++ t) ≡ flat s ++ flat t
-unfolding flat
-flat-append [] t = refl
-flat-append (x ∷ s) t = ap {B = List ℕ} (λ l. x .0 ∷ x .1 ∷ x .2 ∷ l) (flat-append s t)
-
-pub flat-each : (n : ℕ) (f : ℕ → List Tri) → flat (each n f) ≡ each n (λ i. flat (f i))
-unfolding each flat
-flat-each zero f = refl
-flat-each (suc n) f = flat-append (each n f) (f n) ∙ ap (λ (l : List ℕ). l ++ flat (f n)) (flat-each n f)
-
-pub flat-length : (ts : List Tri) → length (flat ts) ≡ 3 * length ts
-unfolding flat
-flat-length [] = refl
-flat-length (t ∷ ts) = omega (arith, flat-length ts)
-
-module _ (d : Tri) where
-  pub flat-0 : (ts : List Tri) (k : ℕ) → k < length ts → getD (flat ts) (3 * k + 0) 0 ≡ getD ts k d .0
-  unfolding flat
-  flat-0 [] k h = absurd (not-suc-le-zero h)
-  flat-0 (t ∷ ts) zero h = refl
-  flat-0 (t ∷ ts) (suc k) h =
-      let e : 3 * suc k + 0 ≡ suc (suc (suc (3 * k + 0))) = omega arith in
-      ap (λ (j : ℕ). getD (t .0 ∷ t .1 ∷ t .2 ∷ flat ts) j 0) e ∙ flat-0 ts k (omega arith)
-
-  pub flat-1 : (ts : List Tri) (k : ℕ) → k < length ts → getD (flat ts) (3 * k + 1) 0 ≡ getD ts k d .1
-  unfolding flat
-  flat-1 [] k h = absurd (not-suc-le-zero h)
-  flat-1 (t ∷ ts) zero h = refl
-  flat-1 (t ∷ ts) (suc k) h =
-      let e : 3 * suc k + 1 ≡ suc (suc (suc (3 * k + 1))) = omega arith in
-      ap (λ (j : ℕ). getD (t .0 ∷ t .1 ∷ t .2 ∷ flat ts) j 0) e ∙ flat-1 ts k (omega arith)
-
-  pub flat-2 : (ts : List Tri) (k : ℕ) → k < length ts → getD (flat ts) (3 * k + 2) 0 ≡ getD ts k d .2
-  unfolding flat
-  flat-2 [] k h = absurd (not-suc-le-zero h)
-  flat-2 (t ∷ ts) zero h = refl
-  flat-2 (t ∷ ts) (suc k) h =
-      let e : 3 * suc k + 2 ≡ suc (suc (suc (3 * k + 2))) = omega arith in
-      ap (λ (j : ℕ). getD (t .0 ∷ t .1 ∷ t .2 ∷ flat ts) j 0) e ∙ flat-2 ts k (omega arith)
+-- ---- those that are emitted
 
 flat-keep : {B : Type 0} (f : B → Tri) (l : List B) → flat (keep emitted (map f l)) ≡ joined (map (λ r. shown (f r)) l)
 unfolding flat keep joined shown
@@ -163,8 +124,9 @@ tet-flat look t case =
     let l = mtRow case in
     let d : Tri = (0, 0, 0) in
     let f : Tri → Tri = λ r. onEach look (onEach (edgeIn t) r) in
+    let first : (k : ℕ) → k < length l → getD (flat l) (3 * k + 0) 0 ≡ getD l k d .0 = λ k h. rw add-zero (flat-at d l k h .0) in
     each-same (length l) (λ k. shown (triAt look t case k)) (λ k. shown (f (getD l k d))) (λ k h. λ i.
-    shown (look (edgeIn t (flat-0 d l k h i)), look (edgeIn t (flat-1 d l k h i)), look (edgeIn t (flat-2 d l k h i))))
+    shown (look (edgeIn t (first k h i)), look (edgeIn t (flat-at d l k h .1 i)), look (edgeIn t (flat-at d l k h .2 i))))
     ∙ each-list l d (λ r. shown (f r)) ∙ sym (flat-keep f l)
     ∙ ap (λ (x : List Tri). flat (keep emitted x)) (sym (map-map (onEach look) (onEach (edgeIn t)) l))
 

@@ -11,12 +11,12 @@ use lib.ListN.{length, length-map}
 use Rattle.laws.specs.Bools.{bit}
 use Rattle.laws.specs.Ranges.{each}
 use Rattle.laws.specs.Lists.{keep, All}
+use Rattle.laws.specs.Triangles.{Tri}
 use Rattle.laws.proofs.Bools.{bit-le, and-apart}
 use Rattle.laws.proofs.Lists.{keep-le, all-keep, all-map}
 use Rattle.laws.proofs.Ranges.{each-same, each-nil, each-trim, each-le, each-rows, each-add, each-all}
 use Rattle.tables.specs.Edges.{du, dv, dw}
 use Rattle.tables.specs.Tets.{tetCorner}
-use Rattle.tables.specs.Cases.{Tri}
 use Rattle.tables.proofs.Cases.{mt-two}
 use Rattle.lattice.specs.declared.Sides.{Sides}
 use Rattle.lattice.specs.declared.Uvw.{Uvw}

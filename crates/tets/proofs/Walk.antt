@@ -13,9 +13,10 @@ use lib.Seq.{getD-drop}
 use lib.Ieee.{Float, nan}
 use Rattle.laws.specs.Ranges.{each}
 use Rattle.laws.specs.Written.{Written}
+use Rattle.laws.specs.Triangles.{flat}
 use Rattle.laws.proofs.Ranges.{lt-or, each-same, each-le}
 use Rattle.laws.proofs.Written.{written-none}
-use Rattle.tables.specs.Cases.{flat}
+use Rattle.laws.proofs.Triangles.{flat-each, flat-length}
 use Rattle.lattice.specs.declared.Sides.{Sides}
 use Rattle.lattice.specs.declared.Uvw.{Uvw}
 use Rattle.lattice.specs.Sites.{SidesFit, InBox, sites, cells, siteOf}
@@ -27,7 +28,7 @@ use Rattle.tets.specs.Samples.{codesOf, codeSum}
 use Rattle.tets.specs.Lists.{fieldOf, deep, layers}
 use Rattle.tets.specs.Loop.{lookUp, cellFlat, rowFlat, InTable, Placed, Lent, Lends}
 use Rattle.tets.proofs.Cases.{case-is, outside-none, inside-none}
-use Rattle.tets.proofs.Flat.{cell-flat, look-is, flat-each, flat-length}
+use Rattle.tets.proofs.Flat.{cell-flat, look-is}
 use Rattle.tets.proofs.March.{site-le, slab-cells, slab-le, march-pairs, pred-sub, layers-ok, layers-side}
 
 -- ---- one cell

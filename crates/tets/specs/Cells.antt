@@ -6,8 +6,9 @@ use Prim.Native.Nat.{ℕ, _+_, _*_}
 use lib.ListN.{getD}
 use Rattle.laws.specs.Bools.{bit}
 use Rattle.laws.specs.Ranges.{each}
+use Rattle.laws.specs.Triangles.{Tri}
 use Rattle.tables.specs.Tets.{tetCorner, edgeIn}
-use Rattle.tables.specs.Cases.{Tri, mtRow}
+use Rattle.tables.specs.Cases.{mtRow}
 
 -- what is known of the eight corners, in the order of their numbers
 abbrev pub Corners : Type 0

@@ -5,7 +5,7 @@ use mathlib.Core.List.{List, map}
 use Prim.Native.Nat.{ℕ, _+_, _*_, _/_, _%_, _<_}
 use Rattle.laws.specs.Ranges.{each}
 use Rattle.laws.specs.Lists.{keep}
-use Rattle.tables.specs.Cases.{Tri}
+use Rattle.laws.specs.Triangles.{Tri}
 use Rattle.lattice.specs.declared.Sides.{Sides}
 use Rattle.lattice.specs.Sites.{siteOf}
 use Rattle.tets.specs.Cells.{onEach, cellTris}

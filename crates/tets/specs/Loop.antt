@@ -6,9 +6,10 @@ use Prim.Native.Nat.{ℕ, _+_, _*_, _-_, _/_, _%_, _≤_, _<_}
 use lib.ListN.{length, getD}
 use lib.Ieee.{Float}
 use Rattle.laws.specs.Ranges.{each}
+use Rattle.laws.specs.Triangles.{Tri, flat}
 use Rattle.tables.specs.Edges.{du, dv, dw}
 use Rattle.tables.specs.Tets.{edgeIn}
-use Rattle.tables.specs.Cases.{Tri, flat, mtRow}
+use Rattle.tables.specs.Cases.{mtRow}
 use Rattle.lattice.specs.declared.Sides.{Sides}
 use Rattle.lattice.specs.Sites.{SidesFit, sites, cells}
 use Rattle.tets.specs.Samples.{caseOn}

@@ -5,8 +5,8 @@ use Prim.Native.Nat.{ℕ, suc, _/_, _%_}
 use lib.Dec.{eqb}
 use Rattle.laws.specs.Ranges.{each}
 use Rattle.laws.specs.Lists.{keep}
+use Rattle.laws.specs.Triangles.{Tri}
 use Rattle.tables.specs.Edges.{du, dv, dw}
-use Rattle.tables.specs.Cases.{Tri}
 use Rattle.lattice.specs.declared.Sides.{Sides}
 use Rattle.lattice.specs.Sites.{inBox, siteOf, step}
 use Rattle.tets.specs.Cells.{Corners, caseNo, onEach, cellTris}

@@ -2,8 +2,8 @@
 use mathlib.Core.Bool.{Bool, not, _&&_, _||_, Bool·beq}
 use Prim.Native.Nat.{ℕ}
 use lib.Dec.{eqb, ltb}
+use Rattle.laws.specs.Triangles.{Tri}
 use Rattle.tables.specs.Edges.{cornerOf, du, dv, dw}
-use Rattle.tables.specs.Cases.{Tri}
 use Rattle.lattice.specs.Sites.{inBox, step}
 use Rattle.tets.specs.March.{Field, sideAt}
 

@@ -1,6 +1,6 @@
 -- `build::grant` meets its contract. Assumes nothing.
 use Rattle.build.proofs.Answering.{cut-length, done-room, done-masks, done-edges, done-table, done-positions, done-book, done-triangles, done-answer}
-use Rattle.build.proofs.Standing.{cells-few}
+use Rattle.lattice.proofs.Sites.{cells-most}
 use Rattle.build.specs.Answer.{order}
 use Rattle.refusals.proofs.Granted.{granted}
 use Rattle.lattice.proofs.Sites.{sites-most}
@@ -35,13 +35,13 @@ mul-t : tie.Need-mul-t
 mul-t c =
     let s = c .before .before .before .before .before .before .before .before .before in
     let g = granted _ _ _ _ _ _ _ (s .pre .0) in
-    omega (arith, c .cell-count .ensures, cells-few (s .args .n) (g .fit))
+    omega (arith, c .cell-count .ensures, cells-most (s .args .n) (g .fit))
 
 mul-w : tie.Need-mul-w
 mul-w c =
     let s = c .before .before .before .before .before .before .before .before .before in
     let g = granted _ _ _ _ _ _ _ (s .pre .0) in
-    omega (arith, c .cell-count .ensures, cells-few (s .args .n) (g .fit))
+    omega (arith, c .cell-count .ensures, cells-most (s .args .n) (g .fit))
 
 slice-relend-prefix-fill : tie.Need-slice-relend-prefix-fill
 slice-relend-prefix-fill c =

@@ -1,6 +1,6 @@
 -- `build::make` meets its contract. Assumes nothing.
 use Rattle.build.proofs.Making.{lent-after, none-paired, first-low, first-flaggable, first-fits, first-under, first-finished, first-parting, first-over}
-use Rattle.build.proofs.Standing.{cells-few}
+use Rattle.lattice.proofs.Sites.{cells-most}
 use lib.Seq.{length-take-le}
 use native.Mathlib.Omega.{arith}
 use mathlib.Core.Path.{sym, _∙_}
@@ -33,7 +33,7 @@ mul-w c =
     let a = s .args in
     let L = s .pre .0 in
     let d = c .before .before .before .before .before .before .before .before .before .before .draw in
-    omega (arith, first-low (a .frame) (a .n) (a .samples .now) (a .h) (a .cluster) (a .masks .now) (a .table .now) (a .positions .now) (a .book .now) (a .tris .now) (a .room .now) (s .pre .0) (a .most) (d .result) _ _ _ _ (d .ensures), L .triangles, cells-few (a .n) (L .masked .sampled .fit))
+    omega (arith, first-low (a .frame) (a .n) (a .samples .now) (a .h) (a .cluster) (a .masks .now) (a .table .now) (a .positions .now) (a .book .now) (a .tris .now) (a .room .now) (s .pre .0) (a .most) (d .result) _ _ _ _ (d .ensures), L .triangles, cells-most (a .n) (L .masked .sampled .fit))
 
 slice-reshare-prefix-flag-ends : tie.Need-slice-reshare-prefix-flag-ends
 slice-reshare-prefix-flag-ends c =

@@ -1,6 +1,6 @@
 -- `build::one_round` meets its contract. Assumes nothing.
 use Rattle.build.proofs.Rounds.{round-low, round-flaggable, round-fits, round-under, round-still, round-ready, round-turned}
-use Rattle.build.proofs.Standing.{cells-few}
+use Rattle.lattice.proofs.Sites.{cells-most}
 use lib.Seq.{length-take-le}
 use native.Mathlib.Omega.{arith}
 use borrow.Author.Tests.{not-true, not-false}
@@ -20,7 +20,7 @@ mul-w c =
     let s = c .before .before .before .before .before .before .before .before .before in
     let a = s .args in
     let m = c .before .cell-count in
-    omega (arith, round-low (a .frame) (a .n) (a .samples .now) (a .h) (a .at) (a .masks .now) (a .table .now) (a .positions .now) (a .book .now) (a .tris .now) (a .room .now) (s .pre .0) (s .pre .1) (m .result) (m .ensures), s .pre .0 .triangles, cells-few (a .n) (s .pre .0 .masked .sampled .fit))
+    omega (arith, round-low (a .frame) (a .n) (a .samples .now) (a .h) (a .at) (a .masks .now) (a .table .now) (a .positions .now) (a .book .now) (a .tris .now) (a .room .now) (s .pre .0) (s .pre .1) (m .result) (m .ensures), s .pre .0 .triangles, cells-most (a .n) (s .pre .0 .masked .sampled .fit))
 
 slice-reshare-prefix-flag-owners : tie.Need-slice-reshare-prefix-flag-owners
 slice-reshare-prefix-flag-owners c =
@@ -65,7 +65,7 @@ mul-roll-back c =
     let s = c .before .before .before .before .before .before .before .before .before .before .before .before .before .before .before .before .before .before .before in
     let a = s .args in
     let m = c .before .before .before .before .before .before .before .before .before .before .before .cell-count in
-    omega (arith, m .ensures, cells-few (a .n) (s .pre .0 .masked .sampled .fit))
+    omega (arith, m .ensures, cells-most (a .n) (s .pre .0 .masked .sampled .fit))
 
 sub-roll-back : tie.Need-sub-roll-back
 sub-roll-back c = search needs

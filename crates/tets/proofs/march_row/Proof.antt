@@ -6,9 +6,9 @@ use native.Mathlib.Omega.{arith}
 use denote.Ref.{now}
 use Rattle.laws.specs.Ranges.{each}
 use Rattle.laws.specs.Written.{Written}
+use Rattle.laws.specs.Triangles.{flat}
 use Rattle.laws.proofs.Ranges.{each-none}
 use Rattle.laws.proofs.Written.{written-none, written-turn, written-done, written-length, written-room}
-use Rattle.tables.specs.Cases.{flat}
 use Rattle.tets.specs.March.{siteTris}
 use Rattle.tets.specs.Lists.{fieldOf}
 use Rattle.tets.specs.Samples.{columnAt, columnOf}
