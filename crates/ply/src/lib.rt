@@ -4,7 +4,6 @@ ghost use mathlib.Core.Path.{_≡_};
 ghost use Prim.Native.Nat.{_+_, _*_, _/_, _≤_, _<_};
 ghost use lib.ListN.{length};
 ghost use Rattle.laws.specs.Bools.{Tells};
-ghost use Rattle.laws.specs.Lists.{All};
 ghost use Rattle.laws.specs.Written.{Written};
 ghost use Rattle.text.specs.Numbers.{dec};
 ghost use Rattle.text.specs.Lines.{Small};
@@ -110,26 +109,6 @@ pub fn length_of(vertices: usize, faces: usize) -> usize
     0
 }
 
-fn index(x: u32) -> usize
-    ensures { λ r. ⌜ r ≡ x ⌝ }
-{
-    x as usize
-}
-
-// Whether each index is below v.
-fn below(triangles: &[u32], v: usize) -> bool
-    ensures { λ r. ⌜ Tells (All (λ x. x < v) (now (triangles .entry))) r ⌝ }
-{
-    let mut k = 0usize;
-    while k < triangles.len() {
-        if v <= index(triangles[k]) {
-            return false;
-        }
-        k += 1;
-    }
-    true
-}
-
 // Whether n coordinates and the triangles are those of a file.
 fn fit(n: usize, triangles: &[u32]) -> bool
     ensures { λ r. ⌜ Tells (Fits n (now (triangles .entry))) r ⌝ }
@@ -147,7 +126,7 @@ fn fit(n: usize, triangles: &[u32]) -> bool
     if 999_999_999 < triangles.len() / 3 {
         return false;
     }
-    if below(triangles, v) {
+    if mesh::named(triangles, v) {
         return true;
     }
     false
@@ -293,13 +272,13 @@ fn face_fits(s: &[u8], p: usize, v: usize) -> bool
     if s[p] != 3 {
         return false;
     }
-    if v <= index(le::get4(s, p + 1)) {
+    if v <= mesh::index(le::get4(s, p + 1)) {
         return false;
     }
-    if v <= index(le::get4(s, p + 5)) {
+    if v <= mesh::index(le::get4(s, p + 5)) {
         return false;
     }
-    if v <= index(le::get4(s, p + 9)) {
+    if v <= mesh::index(le::get4(s, p + 9)) {
         return false;
     }
     true
