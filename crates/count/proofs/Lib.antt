@@ -3,3 +3,4 @@ pub mod Building
 pub mod Counts
 pub mod Status
 pub mod Example
+pub mod Told

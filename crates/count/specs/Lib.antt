@@ -1,2 +1,3 @@
 -- What the count program prints.
 pub mod Count
+pub mod Told

@@ -1,10 +1,8 @@
 -- Document 01's example: the PLY file that is written for it, computed from the definition of the build. Assumes nothing.
 use mathlib.Core.Path.{_≡_, refl, ap₂, _∙_}
-use mathlib.Core.Bool.{cond}
 use mathlib.Core.List.{List, map}
 use Prim.Native.Nat.{ℕ}
-use lib.Ieee.{Float, binary64, ofBits, toBits, le, round}
-use borrow.Author.Tests.{eq-eqb}
+use lib.Ieee.{Float, binary64, ofBits, toBits, le}
 use Rattle.laws.specs.Ranges.{each}
 use Rattle.le.specs.Bytes.{bytesOf}
 use Rattle.points.specs.Limits.{originOk, stepOk, originsOk, stepsOk, frameOk}
@@ -16,9 +14,10 @@ use Rattle.text.specs.Numbers.{digits, dec}
 use Rattle.text.specs.Example as count
 use Rattle.text.proofs.Example.{example-file}
 use Rattle.count.specs.Count.{headSides, pointOf, headFrame, floatsOf, workOrder}
+use Rattle.count.specs.Told.{file}
 use Rattle.ply.specs.Form.{headText, wordsText, faceText, facesText, plyText}
 use Rattle.ply.specs.Answers.{bitsOf}
-use Rattle.ply_file.specs.Text.{plyOf, Drawn, file}
+use Rattle.ply_file.specs.Text.{Drawn}
 use Rattle.ply_file.specs.Example.{exampleWords, exampleTriangles, exampleFile}
 use Rattle.ply_file.proofs.Meshes.{text-done}
 use Rattle.ply_file.proofs.Texts.{drawn-unique}
@@ -49,4 +48,4 @@ printed = refl
 -- what is written for document 01's example is the oracle's file
 pub example-drawn : (t : List ℕ) → Drawn count.exampleFile t → t ≡ exampleFile
 example-drawn t d =
-    drawn-unique d (file example-file) ∙ text-done asked granted ∙ ap₂ (λ (p : List Float) (f : List ℕ). plyText (bitsOf p) f) positions triangles ∙ ap₂ plyText bits refl ∙ printed
+    drawn-unique d (file _ _ example-file) ∙ text-done asked granted ∙ ap₂ (λ (p : List Float) (f : List ℕ). plyText (bitsOf p) f) positions triangles ∙ ap₂ plyText bits refl ∙ printed

@@ -1,26 +1,20 @@
 -- The mesh of a build always fits a PLY file: a writer refuses it for want of room alone. Assumes nothing.
-use mathlib.Core.Path.{_≡_, refl, ap, _∙_}
-use mathlib.Core.Bool.{cond}
+use mathlib.Core.Path.{_≡_, ap, _∙_}
 use mathlib.Core.List.{List}
-use Prim.Native.Nat.{ℕ, _+_, _*_, _/_, _≤_, _<_}
+use Prim.Native.Nat.{ℕ, _*_, _/_, _≤_}
 use native.Mathlib.Omega.{arith}
 use borrow.Author.Tests.{eq-eqb, ne-eqb}
 use lib.Ieee.{binary64, toBits}
 use lib.ListN.{length, length-map}
-use lib.Seq.{sets}
 use Rattle.laws.specs.Written.{Written}
-use Rattle.laws.proofs.Lists.{all-index}
-use Rattle.tets.proofs.Flat.{flat-length}
+use Rattle.laws.proofs.Triangles.{flat-length}
 use Rattle.text.specs.Answer.{refusalText}
 use Rattle.stages.specs.Meshes.{meshOf}
-use Rattle.stages.specs.Samples.{positionAt}
-use Rattle.stages.proofs.Book.{positions-length}
-use Rattle.flags.proofs.Meshes.{corner-low}
 use Rattle.build.specs.Answer.{Order, status, orderBox, orderVertices, orderPositions, orderTriangles}
-use Rattle.build.proofs.Fronts.{vertices-most, triangles-most}
+use Rattle.build.proofs.Fronts.{vertices-most, triangles-most, positions-three, corners-below}
 use Rattle.ply.specs.declared.Wrote.{Wrote}
 use Rattle.ply.specs.Form.{plyText, countOf, sizeOf, Fit, Fits}
-use Rattle.ply.specs.Answers.{wrote, bitsOf, WriteOf, done, unfit, no-room}
+use Rattle.ply.specs.Answers.{bitsOf, WriteOf, done, unfit, no-room}
 use Rattle.ply.proofs.Writing.{file-size}
 use Rattle.ply.proofs.Files.{size-most}
 use Rattle.ply_file.specs.Text.{plyOf}
@@ -35,28 +29,24 @@ module _ (o : Order) where
     unfolding plyOf
     text-done = rw (eq-eqb (status o) 0 z)
 
-    three : length (orderPositions o) ≡ length (orderVertices o) * 3
-    unfolding positionAt
-    three = positions-length (positionAt (o .frame) (o .sides) (o .samples)) 3 (λ s es. refl) (orderVertices o)
-
     -- EVERY MESH THAT IS BUILT FITS A PLY FILE, so no writer answers 10 for it
     pub build-fits : Fits (length (orderPositions o)) (orderTriangles o)
     build-fits =
         let t : length (orderTriangles o) ≡ 3 * length (meshOf (orderBox o) (orderVertices o)) = flat-length (meshOf (orderBox o) (orderVertices o)) in
-        let q : length (orderPositions o) / 3 ≡ length (orderVertices o) = omega (arith, three) in
+        let q : length (orderPositions o) / 3 ≡ length (orderVertices o) = omega (arith, positions-three o z) in
         record {
-          whole-words = omega (arith, three);
+          whole-words = omega (arith, positions-three o z);
           whole-triangles = omega arith;
           vertices = omega (arith, q, vertices-most o z);
           faces = omega (arith, t, triangles-most o z);
-          below = rw q (all-index 0 (λ x. x < length (orderVertices o)) (orderTriangles o) (corner-low (orderBox o) (orderVertices o)));
+          below = rw q (corners-below o z);
         }
 
     bits-fit : Fit (bitsOf (orderPositions o)) (orderTriangles o)
     bits-fit = rw (length-map (orderPositions o) (toBits binary64)) build-fits
 
     bits-count : countOf (bitsOf (orderPositions o)) ≡ length (orderVertices o)
-    bits-count = rw (length-map (orderPositions o) (toBits binary64)) (omega (arith, three))
+    bits-count = rw (length-map (orderPositions o) (toBits binary64)) (omega (arith, positions-three o z))
 
     faces-count : countOf (orderTriangles o) ≡ length (meshOf (orderBox o) (orderVertices o))
     faces-count = omega (arith, flat-length (meshOf (orderBox o) (orderVertices o)))

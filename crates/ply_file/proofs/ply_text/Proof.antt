@@ -2,7 +2,7 @@
 use native.Mathlib.Omega.{arith}
 use mathlib.Core.Path.{refl, sym}
 use lib.Seq.{length-take-le}
-use Rattle.ply_file.proofs.Texts.{drawn-refused, few, positions-there, triangles-there, drawn-done}
+use Rattle.ply_file.proofs.Texts.{drawn-refused, mesh, drawn-done}
 use borrow.Author.Needs.{needs}
 use Rattle.ply_file.proofs.ply_text.Statement.{statement}
 use Rattle.ply_file.proofs.ply_text.Tie as tie
@@ -41,19 +41,19 @@ mul-v : tie.Need-mul-v
 mul-v c =
     let e = c .before in
     let b = e .before .before .before .before .before .before .before .before in
-    omega (arith, few _ _ _ _ refl (b .build-file .ensures) (e .if1 .left) .0)
+    omega (arith, mesh _ _ _ _ refl (b .build-file .ensures) (e .if1 .left) .few-vertices)
 
 mul-t : tie.Need-mul-t
 mul-t c =
     let e = c .before .before in
     let b = e .before .before .before .before .before .before .before .before in
-    omega (arith, few _ _ _ _ refl (b .build-file .ensures) (e .if1 .left) .1)
+    omega (arith, mesh _ _ _ _ refl (b .build-file .ensures) (e .if1 .left) .few-triangles)
 
 array-share-prefix-positions : tie.Need-array-share-prefix-positions
 array-share-prefix-positions c =
     let e = c .before .before in
     let b = e .before .before .before .before .before .before .before .before in
-    positions-there _ _ _ _ refl (b .build-file .ensures) (e .if1 .left)
+    mesh _ _ _ _ refl (b .build-file .ensures) (e .if1 .left) .room-positions
 
 slice-aggregate-write-mesh : tie.Need-slice-aggregate-write-mesh
 slice-aggregate-write-mesh c = sym (length-take-le _ _ (array-share-prefix-positions (c .before)))
@@ -62,7 +62,7 @@ array-share-prefix-triangles : tie.Need-array-share-prefix-triangles
 array-share-prefix-triangles c =
     let e = c .before .before .before in
     let b = e .before .before .before .before .before .before .before .before in
-    triangles-there _ _ _ _ refl (b .build-file .ensures) (e .if1 .left)
+    mesh _ _ _ _ refl (b .build-file .ensures) (e .if1 .left) .room-triangles
 
 slice-aggregate-write-mesh-2 : tie.Need-slice-aggregate-write-mesh-2
 slice-aggregate-write-mesh-2 c = sym (length-take-le _ _ (array-share-prefix-triangles (c .before)))
