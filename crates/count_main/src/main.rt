@@ -4,7 +4,7 @@
 // A count file has at most 4,321 bytes. So what is longer than the buffer is none, and what is left of it in the buffer is none either.
 fn main() {
     let mut space = [0u8; 8192];
-    let taken = streams::read(b"usage: count_main [FILE]\n", &mut space);
+    let taken = streams::read(b"usage: count_main [FILE]\n", 1, &mut space);
     if taken.ok {
         let n = taken.length;
         let mut out = [0u8; 402];

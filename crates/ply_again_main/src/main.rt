@@ -4,7 +4,7 @@
 // One byte more than is written again, so that a file that is too long is seen to be: `again-cut` says that its first bytes suffice.
 fn main() {
     let mut space = [0u8; 131073];
-    let taken = streams::read(b"usage: ply_again_main [FILE]\n", &mut space);
+    let taken = streams::read(b"usage: ply_again_main [FILE]\n", 1, &mut space);
     if taken.ok {
         let n = taken.length;
         let mut out = [0u8; 131072];

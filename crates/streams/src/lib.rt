@@ -1,4 +1,4 @@
-// A program's bytes: all of its input, from standard input or from the file that its one argument names, and its answer in one go. What fails is said
+// A program's bytes: all of its input, from standard input or from the file that its last argument names, and its answer in one go. What fails is said
 // on standard error.
 use libc::STDERR_FILENO;
 use libc::STDIN_FILENO;
@@ -49,10 +49,15 @@ fn take_all(fd: i32, space: &mut [u8]) -> Taken
     }
 }
 
-// The file that argument 1 names, open; or -1.
-fn open_named() -> i32 {
+// How the program is called, said where it was called otherwise.
+pub fn say(usage: &[u8]) {
+    io::write_all(STDERR_FILENO, usage);
+}
+
+// The file that argument i names, open; or -1.
+fn open_named(i: usize) -> i32 {
     let mut path = io::buffer();
-    let n = os::arg(1, &mut path);
+    let n = os::arg(i, &mut path);
     let fd = os::open_read(&path[..n]);
     if fd < 0 {
         os::fail(&path[..n]);
@@ -60,24 +65,25 @@ fn open_named() -> i32 {
     fd
 }
 
-fn open(usage: &[u8]) -> i32 {
+// The file that argument i names, where there is one and it is the last; standard input where there are fewer.
+fn open(usage: &[u8], i: usize) -> i32 {
     let words = os::arg_count();
-    if words > 2 {
-        io::write_all(STDERR_FILENO, usage);
+    if words <= i {
+        return STDIN_FILENO;
+    }
+    if words - i > 1 {
+        say(usage);
         return -1;
     }
-    if words == 2 {
-        return open_named();
-    }
-    STDIN_FILENO
+    open_named(i)
 }
 
-// The program's input, at the front of `space`. Where it is longer, its first bytes. Not ok where it could not be read: then no answer about it is to be
-// given.
-pub fn read(usage: &[u8], space: &mut [u8]) -> Taken
+// The program's input, at the front of `space`: the file that argument i names, if there is one, else standard input. Where it is longer, its first bytes. Not
+// ok where it could not be read: then no answer about it is to be given.
+pub fn read(usage: &[u8], i: usize, space: &mut [u8]) -> Taken
     ensures { λ r. ⌜ Counts (r .length) (now (space .exit)) ⌝ }
 {
-    let fd = open(usage);
+    let fd = open(usage, i);
     if fd < 0 {
         return Taken {
             ok: false,

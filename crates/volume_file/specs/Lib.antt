@@ -1,0 +1,3 @@
+-- What the promises of this crate cite: the words that the program is given, and what is printed for a count file.
+pub mod Words
+pub mod Text
