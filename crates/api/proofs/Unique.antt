@@ -3,6 +3,7 @@ use mathlib.Core.Path.{_≡_, sym, ap, _∙_}
 use mathlib.Core.Bool.{Bool}
 use mathlib.Core.List.{List, [], _∷_}
 use Prim.Native.Nat.{ℕ}
+use lib.IntN.{ℤ}
 use lib.Ieee.{Float}
 use Rattle.sides.specs.declared.Sample.{Sample}
 use Rattle.topology.specs.Topology.{topologyOf, caseNumber}
@@ -12,6 +13,7 @@ use Rattle.ply.specs.declared.Counts.{Counts}
 use Rattle.ply.proofs.Promises.{write-unique, sizes-unique, read-unique}
 use Rattle.api.specs.Calls.{countsOf}
 use Rattle.api.specs.Files.{PlyWritten, PlySized, PlyRead}
+use Rattle.api.specs.Volumes.{VolumeTold}
 
 module _ (o : Order) (m t : List ℕ) (p : List Float) (k tr e : List ℕ) where
   -- the eight promises of `spoonthicket_build`
@@ -61,3 +63,7 @@ pub ply-read-unique : {s l m x y x′ y′ n k : List ℕ} {r q : ℕ} → PlyRe
 ply-read-unique a b =
     let u = read-unique (a .is) (b .is) in
     (u .0, u .1, a .status ∙ ap (λ (c : Counts). c .status) (u .2) ∙ sym (b .status), a .numbers ∙ ap (λ (c : Counts). c .vertices ∷ c .faces ∷ []) (u .2) ∙ sym (b .numbers))
+
+-- that of the volume
+pub volume-told-unique : {P : List Float} {T : List ℕ} {s : Float} {o n m : List ℤ} {r q : ℕ} → VolumeTold P T s o r n → VolumeTold P T s o q m → (r ≡ q) × (n ≡ m)
+volume-told-unique a b = (a .status ∙ sym (b .status), a .six ∙ sym (b .six))

@@ -1,10 +1,11 @@
-// What C and Rust link: the build, PLY files, and two leaves for whoever measures. No function here asks anything of its caller but that each
+// What C and Rust link: the build, PLY files, the volume, and two leaves for whoever measures. No function here asks anything of its caller but that each
 // list is as long as it says, that the lists do not overlap, and that the fixed ones have their entries.
 use build::Answer;
 use lattice::Sides;
 use points::Frame;
 use points::Point;
 use sides::Sample;
+use volume::Whole;
 ghost use mathlib.Core.Path.{_≡_};
 ghost use lib.Dec.{eqb};
 ghost use Prim.Native.Nat.{_<_};
@@ -16,6 +17,7 @@ ghost use Rattle.build.specs.Answer.{answerOf, masksAfter, tableAfter, position
 ghost use Rattle.ply.specs.Answers.{bitsOf, fileLength};
 ghost use Rattle.api.specs.Calls.{asked, frameAt, countsOf, endsAt};
 ghost use Rattle.api.specs.Files.{PlyWritten, PlyRead, PlySized};
+ghost use Rattle.api.specs.Volumes.{wholeAt, VolumeTold};
 
 // Origin and step, three numbers each.
 fn frame_at(f: &[f64; 6]) -> Frame
@@ -216,4 +218,33 @@ pub extern "C" fn spoonthicket_ply_read(
     let stored = ply::read(file, words, triangles);
     *counts = [stored.vertices, stored.faces];
     stored.status
+}
+
+// ---- the volume
+
+fn whole_at(o: &[i64; 3]) -> Whole
+    ensures { λ r. ⌜ r ≡ wholeAt (now (o .entry)) ⌝ }
+{
+    let x = o[0];
+    let y = o[1];
+    let z = o[2];
+    Whole { x, y, z }
+}
+
+// Six times the volume that the triangles enclose, in whole units. The answer is 0, or a refusal, 10, 12 or 13; `six` gets the sum, 0 on a refusal.
+#[no_mangle]
+pub extern "C" fn spoonthicket_volume(
+    vertices: &[f64],
+    triangles: &[u32],
+    scale: f64,
+    origin: &[i64; 3],
+    six: &mut [i64; 1],
+) -> usize
+    ensures { λ r. ⌜ VolumeTold (now (vertices .entry)) (now (triangles .entry)) scale (now (origin .entry)) r (now (six .exit)) ⌝ }
+{
+    let at = whole_at(origin);
+    let found = volume::volume_of(vertices, triangles, scale, at);
+    let n = found.six;
+    *six = [n];
+    found.status
 }
