@@ -20,7 +20,7 @@
 //   The vertex book: read off the Rust's edge table after each pass, and off the masks.
 //   The call of test_topology for the dump (the build makes its own calls).
 //   The count file, its refusals, what is printed, the checks of each answer (countfile.rs), the PLY file (ply.rs),
-//     the generator (generate.rs), the search (search.rs), and the commands below.
+//     the volume (volume.rs), the generator (generate.rs), the search (search.rs), and the commands below.
 //
 // The threshold 1.0e-9 stands in the Rust's text only (is_inside, twice) and in the values that generate.rs picks.
 
@@ -31,6 +31,7 @@ mod generate;
 mod isosurface;
 mod ply;
 mod search;
+mod volume;
 
 include!(concat!(env!("ORACLE_MADE"), "/modules.rs"));
 
@@ -38,7 +39,8 @@ use std::collections::HashMap;
 use std::io::{Read, Write};
 
 const USAGE: &str = "usage: oracle [--dump | --ply] [--unbounded] [FILE]
-       oracle --batch [--dump | --ply]
+       oracle --volume DIGITS X Y Z [FILE]
+       oracle --batch [--dump | --ply | --volume DIGITS X Y Z]
        oracle --generate SEED FROM COUNT [FOLDER]
        oracle --coverage SEED COUNT [FOLDER]
        oracle --search SEED SECONDS FOLDER [NAME]
@@ -50,7 +52,7 @@ const USAGE: &str = "usage: oracle [--dump | --ply] [--unbounded] [FILE]
        oracle --alpha A B
        oracle --mean X Y Z [X Y Z ..]
        oracle --tables
-a value is 16 lower-case hex digits, or - for a missing one";
+a value is 16 lower-case hex digits, or - for a missing one; DIGITS is 0 to 6, and X Y Z are whole numbers of i64";
 
 fn stop(why: &str) -> ! {
     eprintln!("oracle: {why}");
@@ -70,6 +72,10 @@ fn value(text: &str) -> Option<f64> {
 
 fn given(text: &str) -> f64 {
     value(text).unwrap_or_else(|| stop("a value is missing"))
+}
+
+fn asked(words: [&str; 4]) -> volume::Asked {
+    volume::Asked::read(words).unwrap_or_else(|| stop(USAGE))
 }
 
 fn whole_input(file: Option<&String>) -> Vec<u8> {
@@ -110,12 +116,12 @@ fn put_file(out: &mut impl Write, bytes: &[u8]) {
 }
 
 /// Answers to many files: a batch in, for each file the answer and a line `end` out.
-fn batch(dump: bool) {
+fn batch(answer: impl Fn(&[u8]) -> String) {
     let bytes = whole_input(None);
     let mut out = std::io::BufWriter::new(std::io::stdout().lock());
     let mut rest = &bytes[..];
     while !rest.is_empty() {
-        let _ = out.write_all(countfile::answer_text(take_file(&mut rest), dump, false).as_bytes());
+        let _ = out.write_all(answer(take_file(&mut rest)).as_bytes());
         let _ = out.write_all(b"end\n");
     }
 }
@@ -177,9 +183,17 @@ fn main() {
     let args: Vec<String> = std::env::args().skip(1).collect();
     let words: Vec<&str> = args.iter().map(String::as_str).collect();
     match words.as_slice() {
-        ["--batch"] => batch(false),
-        ["--batch", "--dump"] | ["--dump", "--batch"] => batch(true),
+        ["--batch"] => batch(|file| countfile::answer_text(file, false, false)),
+        ["--batch", "--dump"] | ["--dump", "--batch"] => batch(|file| countfile::answer_text(file, true, false)),
         ["--batch", "--ply"] | ["--ply", "--batch"] => batch_ply(),
+        ["--batch", "--volume", digits, x, y, z] | ["--volume", digits, x, y, z, "--batch"] => {
+            let asked = asked([digits, x, y, z]);
+            batch(|file| volume::answer(file, &asked))
+        }
+        ["--volume", digits, x, y, z, file @ ..] if file.len() < 2 => {
+            let asked = asked([digits, x, y, z]);
+            let _ = std::io::stdout().write_all(volume::answer(&whole_input(args.get(5)), &asked).as_bytes());
+        }
         ["--generate", seed, from, count, folder @ ..] if folder.len() < 2 => {
             let kept = generate::kept(folder.first().copied());
             let mut out = std::io::BufWriter::new(std::io::stdout().lock());
