@@ -132,6 +132,30 @@ size_t spoonthicket_ply_read(
     uint32_t *triangles, size_t triangles_len,
     size_t counts[SPOONTHICKET_PLY_COUNTS]);
 
+/* What spoonthicket_volume answers. The lowest number that applies is given; the sum is then 0. */
+enum {
+    SPOONTHICKET_VOLUME_LISTS = 10, /* a list not in whole threes, over 357,492 triangles, or an index that is no vertex */
+    SPOONTHICKET_VOLUME_SCALE = 12, /* a scale that is not above 0 and finite */
+    SPOONTHICKET_VOLUME_CORNER = 13 /* a triangle's corner that is not within -10,000 to 10,000 on each axis, or has no whole number there */
+};
+
+/* Six times the volume that the triangles enclose, in whole units, signed and exact. Any mesh will do, another maker's too.
+ *
+ * A coordinate is the position times the scale, one product of doubles, rounded to the nearest whole number, a tie to the even one, less
+ * the origin's number. six gets the sum of a . (b x c) over the triangles with the corners a, b and c, 0 on a refusal; nothing else is
+ * stored. The sum is below 0 where the triangles run the other way. It does not depend on the order of the triangles, and of a closed
+ * surface not on the origin, as long as both origins are accepted. An open one encloses nothing, and its sum alone means nothing.
+ *
+ * The origin takes every int64_t. A vertex that no triangle names is not looked at, so retired ones may lie anywhere.
+ * Of a build lend the first 3 * counts[SPOONTHICKET_MADE] of its vertices and the first 3 * counts[SPOONTHICKET_TRIANGLES] of its
+ * triangles; these are never answered 10.
+ */
+size_t spoonthicket_volume(
+    const double *vertices, size_t vertices_len,
+    const uint32_t *triangles, size_t triangles_len,
+    double scale, const int64_t origin[3],
+    int64_t six[1]);
+
 #ifdef __cplusplus
 }
 #endif

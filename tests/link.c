@@ -1,4 +1,5 @@
-/* Links the archive from C by the header: document 01's example, one refusal, its PLY file written and read, the topology test and the sort. Prints "ok". */
+/* Links the archive from C by the header: document 01's example, one refusal, its PLY file written and read, document 02's volume, the topology test and the sort.
+   Prints "ok". */
 #include "spoonthicket.h"
 
 #include <stdio.h>
@@ -64,6 +65,47 @@ int main(void)
             return failed("short room for a PLY file is not refused");
         if (spoonthicket_ply_read(file, 52, words, 3 * made, corners, 3 * faces, read) != SPOONTHICKET_PLY_HEADER || read[0] != 0 || read[1] != 0)
             return failed("a cut header is not refused");
+    }
+
+    {
+        /* Document 02's check: -3 in the middle, 1 around it, four units apart. 216 cubic units, so 1296. */
+        const double apart[6] = {0.0, 0.0, 0.0, 4.0, 4.0, 4.0};
+        const int64_t here[3] = {0, 0, 0}, there[3] = {5, -7, 11}, far[3] = {INT64_MAX, INT64_MIN, 0};
+        int64_t six[1];
+        size_t made, corners, method;
+
+        samples[13] = -3.0;
+        for (method = 0; method < 2; method++) {
+            if (spoonthicket_build(3, 3, 3, method, 4, apart, samples, SITES, masks, SITES, table, 7 * SITES, vertices, 3 * MOST, book, 4 * MOST,
+                                   triangles, 36 * CELLS, edges, 108 * CELLS, counts) != SPOONTHICKET_DONE)
+                return failed("the box of document 02 is refused");
+            made = 3 * counts[SPOONTHICKET_MADE];
+            corners = 3 * counts[SPOONTHICKET_TRIANGLES];
+            six[0] = -1;
+            if (spoonthicket_volume(vertices, made, triangles, corners, 1.0, here, six) != 0 || six[0] != 1296)
+                return failed("the volume");
+            if (spoonthicket_volume(vertices, made, triangles, corners, 1.0, there, six) != 0 || six[0] != 1296)
+                return failed("the volume from another origin");
+            six[0] = -1;
+            if (spoonthicket_volume(vertices, made - 1, triangles, corners, 0.0, far, six) != SPOONTHICKET_VOLUME_LISTS || six[0] != 0)
+                return failed("a list not in whole threes is not refused");
+            six[0] = -1;
+            if (spoonthicket_volume(vertices, made, triangles, corners - 1, 1.0, here, six) != SPOONTHICKET_VOLUME_LISTS || six[0] != 0)
+                return failed("triangles not in whole threes are not refused");
+            six[0] = -1;
+            if (spoonthicket_volume(vertices, made - 3, triangles, corners, 1.0, here, six) != SPOONTHICKET_VOLUME_LISTS || six[0] != 0)
+                return failed("an index past the vertices is not refused");
+            six[0] = -1;
+            if (spoonthicket_volume(vertices, made, triangles, corners, -0.0, far, six) != SPOONTHICKET_VOLUME_SCALE || six[0] != 0)
+                return failed("a scale of 0 is not refused");
+            six[0] = -1;
+            if (spoonthicket_volume(vertices, made, triangles, corners, 1.0, far, six) != SPOONTHICKET_VOLUME_CORNER || six[0] != 0)
+                return failed("a corner too far off is not refused");
+            six[0] = -1;
+            if (spoonthicket_volume(vertices, made, triangles, 0, 1.0, far, six) != 0 || six[0] != 0)
+                return failed("no triangles enclose something");
+        }
+        samples[13] = -1.0;
     }
 
     memset(masks, 0x5A, sizeof masks);

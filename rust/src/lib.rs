@@ -1,7 +1,8 @@
-//! A safe Rust wrapper of Spoonthicket's proved surface build and its PLY files. What is proved ends at the functions declared in `linked`.
+//! A safe Rust wrapper of Spoonthicket's proved surface build, its PLY files and the volume. What is proved ends at the functions declared in `linked`.
 
 pub mod count_file;
 pub mod ply;
+pub mod volume;
 
 /// The functions of the archive, as include/spoonthicket.h has them. Nothing checks these lines against the Rattle source.
 mod linked {
@@ -59,6 +60,15 @@ mod linked {
             triangles: *mut u32,
             triangles_len: usize,
             counts: *mut [usize; 2],
+        ) -> usize;
+        pub fn spoonthicket_volume(
+            vertices: *const f64,
+            vertices_len: usize,
+            triangles: *const u32,
+            triangles_len: usize,
+            scale: f64,
+            origin: *const [i64; 3],
+            six: *mut [i64; 1],
         ) -> usize;
     }
 }
@@ -234,6 +244,28 @@ impl Mesh {
             Err(refusal) => panic!("{refusal}"),
         }
         out
+    }
+
+    /// Six times the volume that the mesh encloses, in whole units, as `volume::six_volume` has it. A mesh that was built is never answered 10.
+    ///
+    /// It is a volume where the surface is closed: where all samples are finite and those on the border of the box are on one side. Then it is the
+    /// same from every whole origin that is accepted.
+    ///
+    /// ```
+    /// // One site inside: -3 in the middle of 3 x 3 x 3 sites four units apart.
+    /// let mut samples = [1.0; 27];
+    /// samples[13] = -3.0;
+    /// let request = spoonthicket::Request { sides: [3, 3, 3], method: 0, rounds: 0, origin: [0.0; 3], step: [4.0; 3], samples: &samples };
+    /// let mesh = spoonthicket::build(&request).unwrap();
+    /// assert_eq!(mesh.six_volume(1.0, [0, 0, 0]), Ok(1296));
+    /// assert_eq!(mesh.six_volume(1.0, [5, -7, 11]), Ok(1296));
+    /// // In tenths of a unit: 216 cubic units are 216,000 such cubes.
+    /// assert_eq!(mesh.six_volume(10.0, [0, 0, 0]), Ok(1_296_000));
+    /// // The mesh reaches 7 units from the origin, and 70,000 is beyond 10,000.
+    /// assert_eq!(mesh.six_volume(10_000.0, [0, 0, 0]).unwrap_err().0, 13);
+    /// ```
+    pub fn six_volume(&self, scale: f64, origin: [i64; 3]) -> Result<i64, volume::Refusal> {
+        volume::six_volume(&self.positions, &self.triangles, scale, origin)
     }
 }
 
