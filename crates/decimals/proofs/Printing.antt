@@ -88,3 +88,10 @@ pub decimal-room : (k n : ℕ) → length (decimal k n) ≤ k + 21
 unfolding decimal
 decimal-room zero n = omega (arith, dec-room n)
 decimal-room (suc k) n = pointed-room (suc k) n
+
+-- room for a decimal, whichever it is, and where it ends
+pub decimal-fits : (at k n m : ℕ) → at + (k + 21) ≤ m → at + length (decimal k n) ≤ m
+decimal-fits at k n m h = omega (arith, decimal-room k n)
+
+pub decimal-ends : (l l′ : List ℕ) (at k n r : ℕ) → Written l at (decimal k n) l′ r → r ≤ at + (k + 21)
+decimal-ends l l′ at k n r p = omega (arith, p .next, decimal-room k n)

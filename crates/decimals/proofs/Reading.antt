@@ -66,9 +66,9 @@ module _ (l : List ℕ) (n i : ℕ) (at : Sofar l n i) where
       unfolding readMore
       stop-zero z = sym (here ∙ rw (le-ltb (getD l i 0) 48 a, le-ltb 57 (getD l i 0) b, eq-eqb n 0 z))
 
-      pub stop-long : (n ≡ 0 → ⊥) → 18446744073709551615 < n * 10 + (getD l i 0 - 48) → NoNatural ≡ readDec l
+      pub stop-long : 18446744073709551615 < n * 10 + (getD l i 0 - 48) → NoNatural ≡ readDec l
       unfolding readMore
-      stop-long z g = sym (here ∙ rw (le-ltb (getD l i 0) 48 a, le-ltb 57 (getD l i 0) b, ne-eqb n 0 z, lt-ltb 18446744073709551615 (n * 10 + (getD l i 0 - 48)) g))
+      stop-long g = let z : (n ≡ 0 → ⊥) = λ (q : n ≡ 0). omega arith in sym (here ∙ rw (le-ltb (getD l i 0) 48 a, le-ltb 57 (getD l i 0) b, ne-eqb n 0 z, lt-ltb 18446744073709551615 (n * 10 + (getD l i 0 - 48)) g))
 
       pub turn : (m : ℕ) → (n ≡ 0 → ⊥) → n * 10 + (getD l i 0 - 48) ≤ 18446744073709551615 → m ≡ n * 10 + (getD l i 0 - 48) → Sofar l m (i + 1)
       unfolding readMore

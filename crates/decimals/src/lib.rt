@@ -74,16 +74,16 @@ pub fn read_signed(s: &[u8]) -> Signed
         return Signed::NoNumber;
     }
     if s[0] == 45 {
-        let Natural::Is(n) = read_natural(&s[1..]) else {
+        let Natural::Is(size) = read_natural(&s[1..]) else {
             return Signed::NoNumber;
         };
-        if n == 0 {
+        if size == 0 {
             return Signed::NoNumber;
         }
-        if 9223372036854775808 < n {
+        if 9223372036854775808 < size {
             return Signed::NoNumber;
         }
-        let m = (n - 1) as i64;
+        let m = (size - 1) as i64;
         return Signed::Number(-1 - m);
     }
     let Natural::Is(n) = read_natural(s) else {

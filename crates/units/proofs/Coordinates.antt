@@ -49,14 +49,14 @@ module _ (z o : ℤ) (d : ℕ) where
   pub at-plus : z -ℤ o ≡ pos d → d ≤ 10000 → At (toZ w64 d) ≡ coordinateOf (some z) o
   at-plus e h = ap At (toZ-pos w64 d (omega arith)) ∙ near z o (pos d) e (omega (arith, size-plus d))
 
-  minus-is : d ≤ 10000 → pos 0 -ℤ toZ w64 d ≡ negℤ (pos d)
-  minus-is h = ap (λ (y : ℤ). pos 0 -ℤ y) (toZ-pos w64 d (omega arith)) ∙ +ℤ-idl (negℤ (pos d))
+  minus-is : d < 2 ^ 63 → pos 0 -ℤ toZ w64 d ≡ negℤ (pos d)
+  minus-is h = ap (λ (y : ℤ). pos 0 -ℤ y) (toZ-pos w64 d h) ∙ +ℤ-idl (negℤ (pos d))
 
   pub at-minus : z -ℤ o ≡ negℤ (pos d) → d ≤ 10000 → At (rd (pos 0 -ℤ toZ w64 d)) ≡ coordinateOf (some z) o
   at-minus e h =
-      ap At (ap rd (minus-is h) ∙ rd-small (negℤ (pos d)) (omega (arith, size-minus d))) ∙ near z o (negℤ (pos d)) e (omega (arith, size-minus d))
+      ap At (ap rd (minus-is (omega arith)) ∙ rd-small (negℤ (pos d)) (omega (arith, size-minus d))) ∙ near z o (negℤ (pos d)) e (omega (arith, size-minus d))
 
-pub minus-fits : (d : ℕ) → d ≤ 10000 → SFits w64 (pos 0 -ℤ toZ w64 d)
+pub minus-fits : (d : ℕ) → d < 2 ^ 63 → SFits w64 (pos 0 -ℤ toZ w64 d)
 minus-fits d h = rw (minus-is (pos 0) (pos 0) d h) (size-fits (negℤ (pos d)) (omega (arith, size-minus d)))
 
 -- ---- the four differences
@@ -96,32 +96,24 @@ module _ (o : ℤ) (f : SFits w64 o) where
     o-is : o ≡ negsuc (mag o)
     o-is = below-zero o f l
 
-    up-one : rd o +ℤ pos 1 ≡ negℤ (pos (mag o))
-    up-one =
-        ap (λ (y : ℤ). y +ℤ pos 1) (toZ-ofZ w64 o f ∙ o-is)
-        ∙ rep-eq (minus-suc (mag o) ⊞ nat 1) (neg (nat (mag o))) (omega arith)
-
-    pub up-fits : SFits w64 (rd o +ℤ pos 1)
-    up-fits = rw up-one (size-fits (negℤ (pos (mag o))) (omega (arith, size-minus (mag o), mag-lt)))
-
-    turned : pos 0 -ℤ rd (rd o +ℤ pos 1) ≡ pos (mag o)
+    turned : negsuc 0 -ℤ rd o ≡ pos (mag o)
     turned =
-        ap (λ (y : ℤ). pos 0 -ℤ y) (toZ-ofZ w64 (rd o +ℤ pos 1) up-fits ∙ up-one)
-        ∙ rep-eq (nat 0 ⊞ neg (neg (nat (mag o)))) (nat (mag o)) (omega arith)
+        ap (λ (y : ℤ). negsuc 0 -ℤ y) (toZ-ofZ w64 o f ∙ o-is)
+        ∙ rep-eq (minus-suc 0 ⊞ neg (minus-suc (mag o))) (nat (mag o)) (omega arith)
 
-    pub turned-fits : SFits w64 (pos 0 -ℤ rd (rd o +ℤ pos 1))
+    pub turned-fits : SFits w64 (negsuc 0 -ℤ rd o)
     turned-fits = rw turned (record { sfits = mag-lt })
 
-    turned-rd : rd (pos 0 -ℤ rd (rd o +ℤ pos 1)) ≡ pos (mag o)
-    turned-rd = toZ-ofZ w64 (pos 0 -ℤ rd (rd o +ℤ pos 1)) turned-fits ∙ turned
+    turned-rd : rd (negsuc 0 -ℤ rd o) ≡ pos (mag o)
+    turned-rd = toZ-ofZ w64 (negsuc 0 -ℤ rd o) turned-fits ∙ turned
 
-    pub turned-cast : T (nonNeg (rd (pos 0 -ℤ rd (rd o +ℤ pos 1)))) × Fits w64 (natAbs (rd (pos 0 -ℤ rd (rd o +ℤ pos 1))))
+    pub turned-cast : T (nonNeg (rd (negsuc 0 -ℤ rd o))) × Fits w64 (natAbs (rd (negsuc 0 -ℤ rd o)))
     turned-cast = subst (λ (y : ℤ). T (nonNeg y) × Fits w64 (natAbs y)) (sym turned-rd) (tt, record { fits = omega (arith, mag-lt) })
 
-    pub turned-room : Fits w64 (natAbs (rd (pos 0 -ℤ rd (rd o +ℤ pos 1))) + 1)
+    pub turned-room : Fits w64 (natAbs (rd (negsuc 0 -ℤ rd o)) + 1)
     turned-room = subst (λ (y : ℤ). Fits w64 (natAbs y + 1)) (sym turned-rd) (record { fits = omega (arith, mag-lt) })
 
-    pub turned-size : natAbs (rd (pos 0 -ℤ rd (rd o +ℤ pos 1))) + 1 ≡ sizeOf o
+    pub turned-size : natAbs (rd (negsuc 0 -ℤ rd o)) + 1 ≡ sizeOf o
     unfolding sizeOf
     turned-size = ap (λ (y : ℤ). natAbs y + 1) turned-rd ∙ (omega arith ∙ ap sizeOf (sym o-is))
 

@@ -10,7 +10,10 @@ ghost use Rattle.laws.specs.Ints.{sizeOf, signed};
 ghost use Rattle.units.specs.Whole.{wholeOf};
 ghost use Rattle.units.specs.Coordinates.{coordinateOf};
 
-// A whole coordinate less the origin's number, if it is within -10,000 to 10,000.
+// How far a coordinate may be from 0.
+const MOST: u64 = 10000;
+
+// A whole coordinate less the origin's number, if it is at most that far.
 pub enum Coordinate {
     Far,
     At(i64),
@@ -35,7 +38,7 @@ pub fn size_of(o: i64) -> u64
     ensures { λ r. ⌜ r ≡ sizeOf o ⌝ }
 {
     if o < 0 {
-        let m = -(o + 1);
+        let m = -1 - o;
         return (m as u64) + 1;
     }
     o as u64
@@ -47,13 +50,13 @@ fn gap(n: u64, a: u64) -> Coordinate
 {
     if n < a {
         let d = a - n;
-        if d <= 10000 {
+        if d <= MOST {
             return Coordinate::At(-(d as i64));
         }
         return Coordinate::Far;
     }
     let d = n - a;
-    if d <= 10000 {
+    if d <= MOST {
         return Coordinate::At(d as i64);
     }
     Coordinate::Far
@@ -63,8 +66,8 @@ fn gap(n: u64, a: u64) -> Coordinate
 fn above(n: u64, a: u64) -> Coordinate
     ensures { λ r. ⌜ r ≡ coordinateOf (some (pos n)) (negℤ (pos a)) ⌝ }
 {
-    if n <= 10000 {
-        if a <= 10000 - n {
+    if n <= MOST {
+        if a <= MOST - n {
             return Coordinate::At((n + a) as i64);
         }
     }
@@ -75,8 +78,8 @@ fn above(n: u64, a: u64) -> Coordinate
 fn below(n: u64, a: u64) -> Coordinate
     ensures { λ r. ⌜ r ≡ coordinateOf (some (negℤ (pos n))) (pos a) ⌝ }
 {
-    if n <= 10000 {
-        if a <= 10000 - n {
+    if n <= MOST {
+        if a <= MOST - n {
             return Coordinate::At(-((n + a) as i64));
         }
     }

@@ -1,12 +1,13 @@
 -- Determinants of numbers of at most 10,000: how large they and their parts are, and that the machine's sums and products are theirs. Assumes nothing.
 use mathlib.Core.Path.{_≡_, sym, ap, _∙_, subst}
-use Prim.Native.Nat.{_*_, _≤_}
+use Prim.Native.Nat.{ℕ, _*_, _≤_}
 use native.Mathlib.Omega.{arith}
 use lib.IntN.{ℤ, _+ℤ_, _-ℤ_, _*ℤ_}
 use mir.Syntax.{w64}
 use mir.Val.{SFits}
 use Rattle.laws.specs.Ints.{sizeOf}
 use Rattle.volume.specs.Volume.{det9}
+use Rattle.volume.specs.Parts.{Sized}
 use Rattle.laws.proofs.Sizes.{size-add, size-sub, size-fits, mul-most, rd, rd-small, rd-le, mul-is, add-is}
 
 pub minor-most : (a b c d : ℤ) → sizeOf a ≤ 10000 → sizeOf b ≤ 10000 → sizeOf c ≤ 10000 → sizeOf d ≤ 10000 → sizeOf (a *ℤ d -ℤ b *ℤ c) ≤ 200000000
@@ -46,25 +47,22 @@ module _ (p q r : ℤ) (h : sizeOf p ≤ 2000000000000) (k : sizeOf q ≤ 200000
   pub sum-is : rd (rd (rd p +ℤ rd q) +ℤ rd r) ≡ p +ℤ q +ℤ r
   sum-is = rw (pq, rd-small r (omega arith)) (rd-small (p +ℤ q +ℤ r) (omega (arith, size-add (p +ℤ q) r, size-add p q)))
 
--- ---- what a caller knows of the callees' answers
+-- ---- what the functions answer, and what their caller knows of it
 
-pub record Product (r a b c d e : ℤ) : Type 0 where
-  pub is : r ≡ a *ℤ (b *ℤ e -ℤ c *ℤ d)
-  pub most : sizeOf r ≤ 2000000000000
+sized : (z : ℤ) (m : ℕ) (r : ℤ) → r ≡ z → sizeOf z ≤ m → Sized z m r
+sized z m r e h = record { is = e; most = subst (λ (y : ℤ). sizeOf y ≤ m) (sym e) h }
+
+pub minor-sized : (a b c d : ℤ) → sizeOf a ≤ 10000 → sizeOf b ≤ 10000 → sizeOf c ≤ 10000 → sizeOf d ≤ 10000 → Sized (a *ℤ d -ℤ b *ℤ c) 200000000 (rd (rd (rd a *ℤ rd d) -ℤ rd (rd b *ℤ rd c)))
+minor-sized a b c d p q r s = sized (a *ℤ d -ℤ b *ℤ c) 200000000 _ (minor-is a b c d p q r s) (minor-most a b c d p q r s)
+
+pub times-sized : (a m : ℤ) → sizeOf a ≤ 10000 → sizeOf m ≤ 200000000 → Sized (a *ℤ m) 2000000000000 (rd (rd a *ℤ rd m))
+times-sized a m p q = sized (a *ℤ m) 2000000000000 _ (mul-is a m 10000 200000000 p q (omega arith) (omega arith) (omega arith)) (mul-most a m 10000 200000000 p q)
 
 module _ (a b c d e : ℤ) (o : sizeOf a ≤ 10000) (p : sizeOf b ≤ 10000) (q : sizeOf c ≤ 10000) (r : sizeOf d ≤ 10000) (s : sizeOf e ≤ 10000) where
-  pub minor-known : (m : ℤ) → m ≡ rd b *ℤ rd e -ℤ rd c *ℤ rd d → m ≡ b *ℤ e -ℤ c *ℤ d
-  minor-known m h = h ∙ rw (rd-small b (omega arith), rd-small e (omega arith), rd-small c (omega arith), rd-small d (omega arith))
-
-  pub minor-le : (m : ℤ) → m ≡ rd b *ℤ rd e -ℤ rd c *ℤ rd d → sizeOf (rd m) ≤ 200000000
-  minor-le m h = rd-le m 200000000 (omega arith) (subst (λ (y : ℤ). sizeOf y ≤ 200000000) (sym (minor-known m h)) (minor-most b c d e p q r s))
-
-  pub product : (m t : ℤ) → m ≡ rd b *ℤ rd e -ℤ rd c *ℤ rd d → t ≡ rd a *ℤ rd m → Product t a b c d e
+  pub product : (m t : ℤ) → Sized (rd b *ℤ rd e -ℤ rd c *ℤ rd d) 200000000 m → Sized (rd a *ℤ rd m) 2000000000000 t → t ≡ a *ℤ (b *ℤ e -ℤ c *ℤ d)
   product m t h k =
-      let mi = minor-known m h in
-      let ml : sizeOf m ≤ 200000000 = subst (λ (y : ℤ). sizeOf y ≤ 200000000) (sym mi) (minor-most b c d e p q r s) in
-      let e1 : t ≡ a *ℤ m = k ∙ rw (rd-small a (omega arith), rd-small m (omega arith)) in
-      record { is = e1 ∙ ap (λ (y : ℤ). a *ℤ y) mi; most = subst (λ (y : ℤ). sizeOf y ≤ 2000000000000) (sym e1) (omega (arith, mul-most a m 10000 200000000 o ml)) }
+      let i : m ≡ b *ℤ e -ℤ c *ℤ d = h .is ∙ rw (rd-small b (omega arith), rd-small e (omega arith), rd-small c (omega arith), rd-small d (omega arith)) in
+      k .is ∙ rw (rd-small a (omega arith), rd-small m (omega (arith, h .most)), i)
 
 pub total : (t p q r : ℤ) → sizeOf p ≤ 2000000000000 → sizeOf q ≤ 2000000000000 → sizeOf r ≤ 2000000000000 → t ≡ rd p +ℤ rd q +ℤ rd r → rd t ≡ p +ℤ q +ℤ r
 total t p q r h k l e =

@@ -8,7 +8,7 @@ ghost use lib.ListN.{length};
 ghost use Rattle.laws.specs.Ints.{sizeOf};
 ghost use Rattle.laws.specs.Triangles.{trisOf};
 ghost use Rattle.volume.specs.Volume.{det9, listsOk, scaleOk, refused, summed, volumeOf};
-ghost use Rattle.volume.specs.Parts.{whole3, cornerOf, termOf};
+ghost use Rattle.volume.specs.Parts.{whole3, Sized, cornerOf, termOf};
 
 // The origin, in whole units.
 pub struct Whole {
@@ -37,14 +37,14 @@ enum Term {
 
 fn minor(a: i64, b: i64, c: i64, d: i64) -> i64
     requires { ⌜ (sizeOf a ≤ 10000) × (sizeOf b ≤ 10000) × (sizeOf c ≤ 10000) × (sizeOf d ≤ 10000) ⌝ }
-    ensures { λ r. ⌜ r ≡ a *ℤ d -ℤ b *ℤ c ⌝ }
+    ensures { λ r. ⌜ Sized (a *ℤ d -ℤ b *ℤ c) 200000000 r ⌝ }
 {
     a * d - b * c
 }
 
 fn times(a: i64, m: i64) -> i64
     requires { ⌜ (sizeOf a ≤ 10000) × (sizeOf m ≤ 200000000) ⌝ }
-    ensures { λ r. ⌜ r ≡ a *ℤ m ⌝ }
+    ensures { λ r. ⌜ Sized (a *ℤ m) 2000000000000 r ⌝ }
 {
     a * m
 }
@@ -56,7 +56,7 @@ fn sum(p: i64, q: i64, r: i64) -> i64
     p + q + r
 }
 
-// Of the rows a, b and c. It is at most 6,000,000,000,000 in size.
+// Of the rows a, b and c.
 fn determinant(
     ax: i64,
     ay: i64,

@@ -40,8 +40,15 @@ volume-room d z h =
     let t = decimal (3 * d) (sizeOf z / 6) in
     omega (arith, length-append (signOf z) (t ++ (10 ∷ [])), length-append t (10 ∷ []), sign-room z, decimal-room (3 * d) (sizeOf z / 6))
 
-pub line-room : (key : List ℕ) (n : ℕ) → length (decLine key n) ≤ length key + 21
+line-room : (key : List ℕ) (n : ℕ) → length (decLine key n) ≤ length key + 21
 line-room key n = omega (arith, dec-line-length key n, dec-room n)
+
+-- room for a line, whichever number it has, and where it ends
+pub line-fits : (at : ℕ) (key : List ℕ) (n m : ℕ) → at + (length key + 21) ≤ m → at + length (decLine key n) ≤ m
+line-fits at key n m h = omega (arith, line-room key n)
+
+pub line-ends : (l l′ : List ℕ) (at : ℕ) (key : List ℕ) (n r : ℕ) → Written l at (decLine key n) l′ r → r ≤ at + (length key + 21)
+line-ends l l′ at key n r p = omega (arith, p .next, line-room key n)
 
 lines-room : (d t : ℕ) (z : ℤ) → d < 7 → length (volumeText d t z) ≤ 161
 unfolding volumeText

@@ -42,13 +42,13 @@ returns-5 : tie.Need-returns-5 Inv-loop μ-loop
 returns-5 c = let k = c .before .before .before in natural-of _ _ (stop-high _ _ _ (k .before .loop .inv) (k .loop-test .taken) (c .before .if4 .left) (c .if5 .taken))
 
 returns-6 : tie.Need-returns-6 Inv-loop μ-loop
-returns-6 c = let k = c .before .before .before .before in natural-of _ _ (stop-zero _ _ _ (k .before .loop .inv) (k .loop-test .taken) (c .before .before .if4 .left) (c .before .if5 .left) (c .if6 .taken))
+returns-6 c = let k = c .before .before .before .before in natural-of _ _ (stop-zero _ _ _ (k .before .loop .inv) (k .loop-test .taken) (c .before .before .if4 .left) (c .before .if5 .left) (omega (arith, c .if6 .taken)))
 
 wide-requires-2 : tie.Need-wide-requires-2 Inv-loop μ-loop
 wide-requires-2 c κs = search needs
 
 returns-7 : tie.Need-returns-7 Inv-loop μ-loop
-returns-7 c = let k = c .before .before .before .before .before .before in natural-of _ _ (stop-long _ _ _ (k .before .loop .inv) (k .loop-test .taken) (c .before .before .before .before .if4 .left) (c .before .before .before .if5 .left) (c .before .before .if6 .left) (omega arith))
+returns-7 c = let k = c .before .before .before .before .before .before in natural-of _ _ (stop-long _ _ _ (k .before .loop .inv) (k .loop-test .taken) (c .before .before .before .before .if4 .left) (c .before .before .before .if5 .left) (omega arith))
 
 mul-t : tie.Need-mul-t Inv-loop μ-loop
 mul-t c = omega arith
@@ -57,7 +57,7 @@ sub-if8 : tie.Need-sub-if8 Inv-loop μ-loop
 sub-if8 c = omega (arith, c .before .wide2 .ensures, c .before .before .before .if5 .left)
 
 returns-8 : tie.Need-returns-8 Inv-loop μ-loop
-returns-8 c = let k = c .before .before .before .before .before .before .before in natural-of _ _ (stop-long _ _ _ (k .before .loop .inv) (k .loop-test .taken) (c .before .before .before .before .before .if4 .left) (c .before .before .before .before .if5 .left) (c .before .before .before .if6 .left) (omega (arith, c .before .before .wide2 .ensures, c .before .before .before .before .if5 .left, c .if8 .taken)))
+returns-8 c = let k = c .before .before .before .before .before .before .before in natural-of _ _ (stop-long _ _ _ (k .before .loop .inv) (k .loop-test .taken) (c .before .before .before .before .before .if4 .left) (c .before .before .before .before .if5 .left) (omega (arith, c .before .before .wide2 .ensures, c .before .before .before .before .if5 .left, c .if8 .taken)))
 
 add-n : tie.Need-add-n Inv-loop μ-loop
 add-n c = omega (arith, c .before .before .wide2 .ensures, c .if8 .left)
@@ -69,7 +69,7 @@ loop-less : tie.Need-loop-less Inv-loop μ-loop
 loop-less c = omega arith
 
 loop-again : tie.Need-loop-again Inv-loop μ-loop
-loop-again c = let k = c .before .before .before .before .before .before .before in turn _ _ _ (k .before .loop .inv) (k .loop-test .taken) (c .before .before .before .before .before .if4 .left) (c .before .before .before .before .if5 .left) _ (c .before .before .before .if6 .left) (omega (arith, c .before .before .wide2 .ensures, c .before .before .before .before .if5 .left, c .if8 .left)) (omega (arith, c .before .before .wide2 .ensures))
+loop-again c = let k = c .before .before .before .before .before .before .before in turn _ _ _ (k .before .loop .inv) (k .loop-test .taken) (c .before .before .before .before .before .if4 .left) (c .before .before .before .before .if5 .left) _ (λ z. omega (arith, z, c .before .before .before .if6 .left)) (omega (arith, c .before .before .wide2 .ensures, c .before .before .before .before .if5 .left, c .if8 .left)) (omega (arith, c .before .before .wide2 .ensures))
 
 returns-9 : tie.Need-returns-9 Inv-loop μ-loop
 returns-9 c = natural-of _ _ (done _ _ _ (c .before .loop .inv) (c .loop-test .left))

@@ -1,4 +1,6 @@
 -- `units::gap` meets its contract. Assumes nothing.
+use Prim.Native.Nat.{_-_}
+use native.Mathlib.Omega.{arith}
 use lib.IntN.{pos}
 use Rattle.units.proofs.Coordinates.{minus-fits, at-minus, far-minus, at-plus, far-plus, diff-low, diff-high}
 use borrow.Author.Needs.{needs}
@@ -12,7 +14,7 @@ cast-t7 : tie.Need-cast-t7
 cast-t7 c = search needs
 
 sub-t8 : tie.Need-sub-t8
-sub-t8 c = minus-fits _ (c .if2 .taken)
+sub-t8 c = let s = c .before .before in minus-fits (s .args .a - s .args .n) (omega arith)
 
 returns : tie.Need-returns
 returns c = let s = c .before .before in at-minus (pos (s .args .n)) (pos (s .args .a)) _ (diff-low (s .args .n) (s .args .a) (c .before .if1 .taken)) (c .if2 .taken)

@@ -1,10 +1,7 @@
 -- `units::size_of` meets its contract. Assumes nothing.
-use Rattle.units.proofs.Coordinates.{up-fits, turned-fits, turned-cast, turned-room, turned-size, high-cast, high-size}
+use Rattle.units.proofs.Coordinates.{turned-fits, turned-cast, turned-room, turned-size, high-cast, high-size}
 use Rattle.units.proofs.size_of.Statement.{statement}
 use Rattle.units.proofs.size_of.Tie as tie
-
-add-m : tie.Need-add-m
-add-m c = up-fits (c .before .args .o) (c .before .fits .o) (c .if1 .taken)
 
 sub-m : tie.Need-sub-m
 sub-m c = turned-fits (c .before .args .o) (c .before .fits .o) (c .if1 .taken)
@@ -26,4 +23,4 @@ returns-2 c = high-size (c .before .args .o) (c .before .fits .o) (c .if1 .left)
 
 pub size-of-spec : {M : Type 1} → statement M
 size-of-spec =
-    tie.close (tie.spec add-m sub-m cast-result add-result returns cast-result-2 returns-2)
+    tie.close (tie.spec sub-m cast-result add-result returns cast-result-2 returns-2)

@@ -1,7 +1,7 @@
 -- `volume::minor` meets its contract. Assumes nothing.
 use native.Mathlib.Omega.{arith}
 use Rattle.laws.proofs.Sizes.{mul-ok}
-use Rattle.volume.proofs.Determinants.{minor-ok, minor-is}
+use Rattle.volume.proofs.Determinants.{minor-ok, minor-sized}
 use Rattle.volume.proofs.minor.Statement.{statement}
 use Rattle.volume.proofs.minor.Tie as tie
 
@@ -15,7 +15,7 @@ sub-result : tie.Need-sub-result
 sub-result c = minor-ok _ _ _ _ (c .pre .0) (c .pre .1) (c .pre .2) (c .pre .3)
 
 returns : tie.Need-returns
-returns c = minor-is _ _ _ _ (c .pre .0) (c .pre .1) (c .pre .2) (c .pre .3)
+returns c = minor-sized _ _ _ _ (c .pre .0) (c .pre .1) (c .pre .2) (c .pre .3)
 
 pub minor-spec : {M : Type 1} → statement M
 minor-spec = tie.close (tie.spec mul-result mul-result-2 sub-result returns)

@@ -1,9 +1,8 @@
 -- `volume_file::put_volume` meets its contract. Assumes nothing.
-use Prim.Native.Nat.{_*_, _/_}
 use native.Mathlib.Omega.{arith}
 use Rattle.laws.proofs.Sizes.{rd}
 use Rattle.laws.proofs.Written.{written-length}
-use Rattle.decimals.proofs.Printing.{sign-room, decimal-room}
+use Rattle.decimals.proofs.Printing.{sign-room, decimal-fits, decimal-ends}
 use Rattle.volume_file.proofs.Printing.{volume-put}
 use borrow.Author.Needs.{needs}
 use Rattle.volume_file.proofs.put_volume.Statement.{statement}
@@ -25,13 +24,22 @@ mul-put-decimal : tie.Need-mul-put-decimal
 mul-put-decimal c = search needs
 
 put-decimal-requires : tie.Need-put-decimal-requires
-put-decimal-requires c κs = let s = c .before .before .before .before .before .before .before .before .before .before .before .before in let p = c .before .before .before .before .before .before .before .before .put-text .ensures in let q = c .before .before .before .before .put-sign .ensures in omega (arith, s .pre .0, s .pre .1, p .next, written-length p, q .next, written-length q, sign-room (rd (s .args .z)), decimal-room (3 * s .args .d) (c .before .size-of .result / 6))
+put-decimal-requires c κs =
+    let s = c .before .before .before .before .before .before .before .before .before .before .before .before in
+    let p = c .before .before .before .before .before .before .before .before .put-text .ensures in
+    let q = c .before .before .before .before .put-sign .ensures in
+    decimal-fits _ _ _ _ (omega (arith, s .pre .0, s .pre .1, p .next, written-length p, q .next, written-length q, sign-room (rd (s .args .z))))
 
 slice-aggregate-put-text-2 : tie.Need-slice-aggregate-put-text-2
 slice-aggregate-put-text-2 c = search needs
 
 put-text-requires-2 : tie.Need-put-text-requires-2
-put-text-requires-2 c κs = let s = c .before .before .before .before .before .before .before .before .before .before .before .before .before .before .before .before .before in let p = c .before .before .before .before .before .before .before .before .before .before .before .before .before .put-text .ensures in let q = c .before .before .before .before .before .before .before .before .before .put-sign .ensures in let r = c .before .before .before .before .put-decimal .ensures in omega (arith, s .pre .0, s .pre .1, p .next, written-length p, q .next, written-length q, r .next, written-length r, sign-room (rd (s .args .z)), decimal-room (3 * s .args .d) (c .before .before .before .before .before .before .size-of .result / 6))
+put-text-requires-2 c κs =
+    let s = c .before .before .before .before .before .before .before .before .before .before .before .before .before .before .before .before .before in
+    let p = c .before .before .before .before .before .before .before .before .before .before .before .before .before .put-text .ensures in
+    let q = c .before .before .before .before .before .before .before .before .before .put-sign .ensures in
+    let r = c .before .before .before .before .put-decimal .ensures in
+    omega (arith, s .pre .0, s .pre .1, p .next, written-length p, q .next, written-length q, decimal-ends _ _ _ _ _ _ r, written-length r, sign-room (rd (s .args .z)))
 
 same-length : tie.Need-same-length
 same-length c = search needs

@@ -1,4 +1,5 @@
 -- `volume_file::read_words` meets its contract. Assumes nothing.
+use native.Mathlib.Omega.{arith}
 use Rattle.volume_file.proofs.Reading.{no-digits, many-digits, no-x, no-y, no-z, all-read}
 use borrow.Author.Needs.{needs}
 use Rattle.volume_file.proofs.read_words.Statement.{statement}
@@ -17,7 +18,7 @@ returns : tie.Need-returns
 returns c = no-digits _ _ _ _ (c .before .before .read-natural .ensures) (c .enum-told .given .1)
 
 returns-2 : tie.Need-returns-2
-returns-2 c = many-digits _ _ _ _ _ (c .before .before .before .before .read-natural .ensures) (c .before .before .n .given .1) (c .if1 .taken)
+returns-2 c = many-digits _ _ _ _ _ (c .before .before .before .before .read-natural .ensures) (c .before .before .n .given .1) (omega (arith, c .if1 .taken))
 
 read-signed-requires : tie.Need-read-signed-requires
 read-signed-requires c κs = search needs
@@ -56,7 +57,7 @@ returns-5 : tie.Need-returns-5
 returns-5 c = no-z _ _ _ _ (c .before .before .read-signed3 .ensures) (c .enum-told4 .given .1)
 
 returns-6 : tie.Need-returns-6
-returns-6 c = all-read _ _ _ _ _ _ _ _ (c .before .before .before .before .before .before .before .before .before .before .before .before .before .before .before .before .read-natural .ensures) (c .before .before .before .before .before .before .before .before .before .before .before .before .before .before .n .given .1) (c .before .before .before .before .before .before .before .before .before .before .before .before .if1 .left) (c .before .before .before .before .before .before .before .before .before .before .before .read-signed .ensures) (c .before .before .before .before .before .before .before .before .before .ox .given .1) (c .before .before .before .before .before .before .before .read-signed2 .ensures) (c .before .before .before .before .before .oy .given .1) (c .before .before .before .read-signed3 .ensures) (c .before .oz .given .1)
+returns-6 c = all-read _ _ _ _ _ _ _ _ (c .before .before .before .before .before .before .before .before .before .before .before .before .before .before .before .before .read-natural .ensures) (c .before .before .before .before .before .before .before .before .before .before .before .before .before .before .n .given .1) (omega (arith, c .before .before .before .before .before .before .before .before .before .before .before .before .if1 .left)) (c .before .before .before .before .before .before .before .before .before .before .before .read-signed .ensures) (c .before .before .before .before .before .before .before .before .before .ox .given .1) (c .before .before .before .before .before .before .before .read-signed2 .ensures) (c .before .before .before .before .before .oy .given .1) (c .before .before .before .read-signed3 .ensures) (c .before .oz .given .1)
 
 pub read-words-spec : {M : Type 1} → statement M
 read-words-spec =
