@@ -45,7 +45,7 @@ module _ (d : ℕ) (c : Whole) (o : Order) where
   unfolding measureOf
   text-refused z = rw (ne-eqb (status o) 0 z)
 
-  text-done : status o ≡ 0
+  pub text-done : status o ≡ 0
       → measureOf d c o ≡ answerText d (length (meshOf (orderBox o) (orderVertices o))) (volumeOf (orderPositions o) (orderTriangles o) (scaleOf d) c)
   unfolding measureOf
   text-done z = rw (eq-eqb (status o) 0 z)
