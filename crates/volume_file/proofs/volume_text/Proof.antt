@@ -32,25 +32,44 @@ print-refusal-requires : tie.Need-print-refusal-requires
 print-refusal-requires c κs = search needs
 
 returns : tie.Need-returns
-returns c = measured-refused _ _ _ _ _ _ refl (c .before .before .before .before .before .before .before .before .before .before .build-file .ensures) (c .before .before .if1 .taken) _ _ _ (c .before .print-refusal-arg .given .0 .1) (c .print-refusal .ensures)
+returns c =
+    let e = c .before .before in
+    let b = e .before .before .before .before .before .before .before .before in
+    measured-refused _ _ _ _ _ _ refl (b .build-file .ensures) (e .if1 .taken) _ _ _ (c .before .print-refusal-arg .given .0 .1) (c .print-refusal .ensures)
 
 mul-v : tie.Need-mul-v
-mul-v c = omega (arith, mesh (c .before .before .before .before .before .before .before .before .before .before .before .before .before .before .before .before .before .args .digits) (c .before .before .before .before .before .before .before .before .before .before .before .before .before .before .before .before .before .args .origin) _ _ _ _ refl (c .before .before .before .before .before .before .before .before .before .build-file .ensures) (c .before .if1 .left) .few-vertices)
+mul-v c =
+    let e = c .before in
+    let b = e .before .before .before .before .before .before .before .before in
+    let s = b .before .before .before .before .before .before .before .before .args in
+    omega (arith, mesh (s .digits) (s .origin) _ _ _ _ refl (b .build-file .ensures) (e .if1 .left) .few-vertices)
 
 mul-t : tie.Need-mul-t
-mul-t c = omega (arith, mesh (c .before .before .before .before .before .before .before .before .before .before .before .before .before .before .before .before .before .before .args .digits) (c .before .before .before .before .before .before .before .before .before .before .before .before .before .before .before .before .before .before .args .origin) _ _ _ _ refl (c .before .before .before .before .before .before .before .before .before .before .build-file .ensures) (c .before .before .if1 .left) .few-triangles)
+mul-t c =
+    let e = c .before .before in
+    let b = e .before .before .before .before .before .before .before .before in
+    let s = b .before .before .before .before .before .before .before .before .args in
+    omega (arith, mesh (s .digits) (s .origin) _ _ _ _ refl (b .build-file .ensures) (e .if1 .left) .few-triangles)
 
 scale-of-requires : tie.Need-scale-of-requires
 scale-of-requires c κs = search needs
 
 array-share-prefix-positions : tie.Need-array-share-prefix-positions
-array-share-prefix-positions c = mesh (c .before .before .before .before .before .before .before .before .before .before .before .before .before .before .before .before .before .before .before .args .digits) (c .before .before .before .before .before .before .before .before .before .before .before .before .before .before .before .before .before .before .before .args .origin) _ _ _ _ refl (c .before .before .before .before .before .before .before .before .before .before .before .build-file .ensures) (c .before .before .before .if1 .left) .room-positions
+array-share-prefix-positions c =
+    let e = c .before .before .before in
+    let b = e .before .before .before .before .before .before .before .before in
+    let s = b .before .before .before .before .before .before .before .before .args in
+    mesh (s .digits) (s .origin) _ _ _ _ refl (b .build-file .ensures) (e .if1 .left) .room-positions
 
 slice-aggregate-volume-of : tie.Need-slice-aggregate-volume-of
 slice-aggregate-volume-of c = sym (length-take-le _ _ (array-share-prefix-positions (c .before)))
 
 array-share-prefix-triangles : tie.Need-array-share-prefix-triangles
-array-share-prefix-triangles c = mesh (c .before .before .before .before .before .before .before .before .before .before .before .before .before .before .before .before .before .before .before .before .args .digits) (c .before .before .before .before .before .before .before .before .before .before .before .before .before .before .before .before .before .before .before .before .args .origin) _ _ _ _ refl (c .before .before .before .before .before .before .before .before .before .before .before .before .build-file .ensures) (c .before .before .before .before .if1 .left) .room-triangles
+array-share-prefix-triangles c =
+    let e = c .before .before .before .before in
+    let b = e .before .before .before .before .before .before .before .before in
+    let s = b .before .before .before .before .before .before .before .before .args in
+    mesh (s .digits) (s .origin) _ _ _ _ refl (b .build-file .ensures) (e .if1 .left) .room-triangles
 
 slice-aggregate-volume-of-2 : tie.Need-slice-aggregate-volume-of-2
 slice-aggregate-volume-of-2 c = sym (length-take-le _ _ (array-share-prefix-triangles (c .before)))
@@ -60,13 +79,17 @@ volume-of-requires c κs = search needs
 
 print-requires : tie.Need-print-requires
 print-requires c κs =
-    let s = c .before .before .before .before .before .before .before .before .before .before .before .before .before .before .before .before .before .before .before .before .before .before .before in
-    (found-few (s .args .digits) (s .args .origin) _ _ _ _ refl (c .before .before .before .before .before .before .before .before .before .before .before .before .before .before .before .build-file .ensures) (c .before .before .before .before .before .before .before .if1 .left) _ _ (c .before .before .before .before .scale-of .ensures) (c .before .volume-of .ensures), omega (arith, c .print-arg .given .0 .1))
+    let e = c .before .before .before .before .before .before .before in
+    let b = e .before .before .before .before .before .before .before .before in
+    let s = b .before .before .before .before .before .before .before .before .args in
+    (found-few (s .digits) (s .origin) _ _ _ _ refl (b .build-file .ensures) (e .if1 .left) _ _ (c .before .before .before .before .scale-of .ensures) (c .before .volume-of .ensures), omega (arith, c .print-arg .given .0 .1))
 
 returns-2 : tie.Need-returns-2
 returns-2 c =
-    let s = c .before .before .before .before .before .before .before .before .before .before .before .before .before .before .before .before .before .before .before .before .before .before .before .before in
-    measured-done (s .args .digits) (s .args .origin) _ _ _ _ refl (c .before .before .before .before .before .before .before .before .before .before .before .before .before .before .before .before .build-file .ensures) (c .before .before .before .before .before .before .before .before .if1 .left) _ _ _ _ _ (c .before .before .before .before .before .scale-of .ensures) (c .before .before .volume-of .ensures) (c .before .print-arg .given .0 .1) (c .print .ensures)
+    let e = c .before .before .before .before .before .before .before .before in
+    let b = e .before .before .before .before .before .before .before .before in
+    let s = b .before .before .before .before .before .before .before .before .args in
+    measured-done (s .digits) (s .origin) _ _ _ _ refl (b .build-file .ensures) (e .if1 .left) _ _ _ _ _ (c .before .before .before .before .before .scale-of .ensures) (c .before .before .volume-of .ensures) (c .before .print-arg .given .0 .1) (c .print .ensures)
 
 pub volume-text-spec : {M : Type 1} → statement M
 volume-text-spec =
