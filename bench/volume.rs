@@ -2,6 +2,7 @@
 //
 // Meshes of noise, built by the library itself, in hundredths of a step and from a whole origin in their middle, so that every corner is accepted. Both sides make
 // every check: whole threes, the number of triangles, each index below the vertices, the scale, each coordinate of each corner. Neither stores anything.
+// Beside them a Rust of another shape, which rounds each vertex once into a list of its own; ours has no list, and rounds a vertex for each triangle that names it.
 // Every answer is compared before a line is printed; a difference ends the program with an error.
 // A time is the least of its rounds, in microseconds; the two sides take turns.
 
@@ -108,9 +109,7 @@ fn sum(positions: &[f64], triangles: &[u32], scale: f64, origin: [i64; 3], coord
     Some(six)
 }
 
-/// The loop over the near ones; where it gives up, the one over all of them says why.
-#[inline(never)]
-fn rust(mesh: &Mesh, scale: f64, origin: [i64; 3]) -> Result<i64, usize> {
+fn fit(mesh: &Mesh, scale: f64) -> Result<(), usize> {
     let (p, t) = (&mesh.positions, &mesh.triangles);
     let v = p.len() / 3;
     if p.len() % 3 != 0 || t.len() % 3 != 0 || t.len() / 3 > 357_492 || t.iter().any(|&i| i as usize >= v) {
@@ -119,29 +118,58 @@ fn rust(mesh: &Mesh, scale: f64, origin: [i64; 3]) -> Result<i64, usize> {
     if !(scale > 0.0 && scale.is_finite()) {
         return Err(12);
     }
+    Ok(())
+}
+
+/// The loop over the near ones; where it gives up, the one over all of them says why.
+#[inline(never)]
+fn rust(mesh: &Mesh, scale: f64, origin: [i64; 3]) -> Result<i64, usize> {
+    fit(mesh, scale)?;
+    let (p, t) = (&mesh.positions, &mesh.triangles);
     sum(p, t, scale, origin, near).or_else(|| sum(p, t, scale, origin, any)).ok_or(13)
+}
+
+/// The same with each vertex rounded once, into a list that is made inside the clock. A vertex that is not near has a number that no other has.
+#[inline(never)]
+fn once(mesh: &Mesh, scale: f64, origin: [i64; 3]) -> Result<i64, usize> {
+    const FAR: i64 = i64::MIN;
+    fit(mesh, scale)?;
+    let (p, t) = (&mesh.positions, &mesh.triangles);
+    let rounded: Vec<[i64; 3]> = p.chunks_exact(3).map(|at| std::array::from_fn(|axis| near(at[axis], scale, origin[axis]).unwrap_or(FAR))).collect();
+    let mut six = 0;
+    for corners in t.chunks_exact(3) {
+        let [a, b, c] = [0, 1, 2].map(|k| rounded[corners[k] as usize]);
+        if a.contains(&FAR) || b.contains(&FAR) || c.contains(&FAR) {
+            return sum(p, t, scale, origin, any).ok_or(13);
+        }
+        six += a[0] * (b[1] * c[2] - b[2] * c[1]) + b[0] * (c[1] * a[2] - c[2] * a[1]) + c[0] * (a[1] * b[2] - a[2] * b[1]);
+    }
+    Ok(six)
 }
 
 // ---- the clock
 
-/// The least times of the two, by turns, in microseconds.
-fn timed(mut ours: impl FnMut(), mut rust: impl FnMut()) -> (f64, f64) {
-    let mut least = [f64::INFINITY; 2];
+type Way = fn(&Mesh, f64, [i64; 3]) -> Result<i64, usize>;
+
+const WAYS: [Way; 3] = [ours, rust, once];
+
+/// The least times of the three, by turns, in microseconds.
+fn timed(mesh: &Mesh, scale: f64, origin: [i64; 3], six: i64) -> [f64; 3] {
+    let mut least = [f64::INFINITY; 3];
     for _ in 0..ROUNDS {
-        let start = Instant::now();
-        ours();
-        least[0] = least[0].min(start.elapsed().as_secs_f64());
-        let start = Instant::now();
-        rust();
-        least[1] = least[1].min(start.elapsed().as_secs_f64());
+        for (way, least) in WAYS.iter().zip(&mut least) {
+            let start = Instant::now();
+            assert_eq!(black_box(way(black_box(mesh), black_box(scale), black_box(origin))), Ok(six));
+            *least = least.min(start.elapsed().as_secs_f64());
+        }
     }
-    (1.0e6 * least[0], 1.0e6 * least[1])
+    least.map(|seconds| 1.0e6 * seconds)
 }
 
-/// The two answers, which have to be equal.
-fn both(mesh: &Mesh, scale: f64, origin: [i64; 3]) -> Result<i64, usize> {
-    let (a, b) = (ours(mesh, scale, origin), rust(mesh, scale, origin));
-    assert_eq!(a, b, "two answers");
+/// The three answers, which have to be equal.
+fn all(mesh: &Mesh, scale: f64, origin: [i64; 3]) -> Result<i64, usize> {
+    let [a, b, c] = WAYS.map(|way| way(mesh, scale, origin));
+    assert!(a == b && a == c, "three answers: {a:?}, {b:?}, {c:?}");
     a
 }
 
@@ -149,36 +177,34 @@ fn main() {
     // 2^63 is 1 above the largest origin.
     let top = 9223372036854775808.0;
     let ends = Mesh { positions: vec![top, 0.0, 0.0, top, 1.0, 0.0, top, 0.0, 1.0], triangles: vec![0, 1, 2] };
-    assert_eq!(both(&ends, 1.0, [i64::MAX, 0, 0]), Ok(1));
+    assert_eq!(all(&ends, 1.0, [i64::MAX, 0, 0]), Ok(1));
 
     let scale = 100.0;
-    let mut before: Option<(f64, f64)> = None;
+    let mut before: Option<[f64; 3]> = None;
     let mut rows = Vec::new();
     for n in [16, 24, 32] {
         let mut mesh = built(n);
         // Site (u, v, w) lies at (w - u - v, u - v, -w), so the middle of the box is half of (1 - n, 0, 1 - n).
         let middle = -50 * (n as i64 - 1);
         let origin = [middle, 0, middle];
-        let six = both(&mesh, scale, origin).expect("a corner is not accepted");
+        let six = all(&mesh, scale, origin).expect("a corner is not accepted");
         for o in [[middle + 1, -2, middle + 3], [i64::MAX, 0, 0], [0, i64::MIN, 0], [middle + 10_000, 0, middle]] {
-            let _ = both(&mesh, scale, o);
+            let _ = all(&mesh, scale, o);
         }
         for s in [0.0, -1.0, f64::NAN, f64::INFINITY, 1.0e-3, 1.0e9] {
-            let _ = both(&mesh, s, origin);
+            let _ = all(&mesh, s, origin);
         }
-        let times = timed(
-            || { assert_eq!(black_box(ours(black_box(&mesh), black_box(scale), black_box(origin))), Ok(six)); },
-            || { assert_eq!(black_box(rust(black_box(&mesh), black_box(scale), black_box(origin))), Ok(six)); },
-        );
+        let times = timed(&mesh, scale, origin, six);
+        let [o, r, l] = times;
         let (v, f) = (mesh.positions.len() / 3, mesh.triangles.len() / 3);
-        let growth = before.map_or(" |  |".to_string(), |(o, r)| format!("{:.1} | {:.1} |", times.0 / o, times.1 / r));
-        rows.push(format!("| {n} | {v} | {f} | {:.0} | {:.0} | {:.2} | {growth}", times.0, times.1, times.1 / times.0));
+        let growth = before.map_or(" |  |".to_string(), |[p, q, _]| format!("{:.1} | {:.1} |", o / p, r / q));
+        rows.push(format!("| {n} | {v} | {f} | {o:.0} | {r:.0} | {:.2} | {growth} {l:.0} | {:.2} |", r / o, l / o));
         before = Some(times);
         // One index that is no vertex, at the end of the list.
         *mesh.triangles.last_mut().unwrap() = v as u32;
-        assert_eq!(both(&mesh, scale, origin), Err(10));
+        assert_eq!(all(&mesh, scale, origin), Err(10));
     }
-    println!("| a side | vertices | triangles | ours | Rust | Rust / ours | growth ours | growth Rust |\n|---|---|---|---|---|---|---|---|");
+    println!("| a side | vertices | triangles | ours | Rust | Rust / ours | growth ours | growth Rust | Rust, each once | each once / ours |\n|---|---|---|---|---|---|---|---|---|---|");
     for row in rows {
         println!("{row}");
     }
