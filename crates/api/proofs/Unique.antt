@@ -5,7 +5,7 @@ use mathlib.Core.List.{List, [], _∷_}
 use Prim.Native.Nat.{ℕ}
 use lib.IntN.{ℤ}
 use lib.Ieee.{Float}
-use Rattle.sides.specs.declared.Sample.{Sample}
+use Rattle.samples.specs.declared.Sample.{Sample}
 use Rattle.topology.specs.Topology.{topologyOf, caseNumber}
 use Rattle.build.specs.Answer.{Order, answerOf, masksAfter, tableAfter, positionsAfter, bookAfter, trianglesAfter, edgesAfter}
 use Rattle.ply.specs.declared.Wrote.{Wrote}

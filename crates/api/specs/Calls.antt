@@ -4,8 +4,8 @@ use Prim.Native.Nat.{ℕ}
 use lib.ListN.{length}
 use lib.Ieee.{Float}
 use Rattle.laws.specs.Ranges.{each}
-use Rattle.sides.specs.declared.Sample.{Sample}
-use Rattle.sides.specs.Sides.{whenFinite}
+use Rattle.samples.specs.declared.Sample.{Sample}
+use Rattle.samples.specs.Sides.{whenFinite}
 use Rattle.marks.specs.Marks.{sample}
 use Rattle.points.specs.declared.Frame.{Frame}
 use Rattle.points.specs.Positions.{frameOf}

@@ -4,12 +4,12 @@ use build::Answer;
 use lattice::Sides;
 use points::Frame;
 use points::Point;
-use sides::Sample;
+use samples::Sample;
 use volume::Whole;
 ghost use mathlib.Core.Path.{_≡_};
 ghost use lib.Dec.{eqb};
 ghost use Prim.Native.Nat.{_<_};
-ghost use Rattle.sides.specs.Sides.{base, whenFinite};
+ghost use Rattle.samples.specs.Sides.{base, whenFinite};
 ghost use Rattle.marks.specs.Marks.{sample};
 ghost use Rattle.topology.specs.Topology.{topologyOf, caseNumber};
 ghost use Rattle.pairs.specs.Order.{Sorts};
@@ -104,7 +104,7 @@ fn end_at(ends: &[f64; 14], e: usize) -> Sample
     requires { ⌜ e < 14 ⌝ }
     ensures { λ r. ⌜ r ≡ whenFinite (sample (now (ends .entry)) e) ⌝ }
 {
-    sides::finite_sample(ends[e])
+    samples::finite_sample(ends[e])
 }
 
 fn ends_at(ends: &[f64; 14]) -> [Sample; 14]

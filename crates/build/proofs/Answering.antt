@@ -17,16 +17,16 @@ use Rattle.marks.specs.Marks.{crossedCount, maskAt, masksOf}
 use Rattle.stages.specs.Boxes.{Box}
 use Rattle.stages.specs.Meshes.{bookOf, fieldOf, meshOf, positionsOf}
 use Rattle.stages.specs.Rounds.{built}
-use Rattle.stages.specs.Samples.{boxOf, positionAt}
+use Rattle.stages.specs.Samples.{boxOf, positionAt, caseCount}
 use Rattle.stages.proofs.Book.{book-length}
 use Rattle.stages.proofs.Stages.{built-stage}
 use Rattle.stages.proofs.Table.{table-length}
-use Rattle.tets.proofs.March.{march-le}
+use Rattle.march.proofs.March.{march-le}
 use Rattle.refusals.specs.Refusals.{most}
-use Rattle.refusals.specs.Granted.{Granted}
+use Rattle.refusals.specs.Inner.Granted.{Granted}
 use Rattle.refusals.proofs.Granted.{granted}
-use Rattle.vertices.proofs.Appending.{positions-three}
-use Rattle.passes.specs.Passing.{caseCount, casesTo}
+use Rattle.site_vertices.proofs.Appending.{positions-three}
+use Rattle.vertex_pass.specs.Inner.Passing.{casesTo}
 use Rattle.build.specs.declared.Answer.{Answer}
 use Rattle.build.specs.declared.Made.{Made}
 use Rattle.build.specs.Answer.{Order, answerOf, bookAfter, doneAnswer, edgesAfter, masksAfter, orderBook, orderBox, orderCases, orderEdges, orderMasks, orderPositions, orderTable, orderTriangles, orderVertices, positionsAfter, refusedAnswer, status, tableAfter, trianglesAfter, written}

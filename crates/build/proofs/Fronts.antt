@@ -13,10 +13,9 @@ use Rattle.laws.specs.Lists.{All}
 use Rattle.laws.proofs.Lists.{all-index}
 use Rattle.laws.proofs.Triangles.{flat-length}
 use Rattle.stages.specs.Meshes.{meshOf}
-use Rattle.stages.specs.Samples.{positionAt}
-use Rattle.stages.proofs.Book.{positions-length}
+use Rattle.site_vertices.proofs.Appending as appended
 use Rattle.refusals.proofs.Status.{most-most}
-use Rattle.flags.proofs.Meshes.{corner-low}
+use Rattle.crowded.proofs.Meshes.{corner-low}
 use Rattle.build.specs.declared.Answer.{Answer}
 use Rattle.build.specs.Answer.{Order, status, orderBox, orderVertices, orderPositions, orderTriangles, doneAnswer, refusedAnswer, answerOf, written, positionsAfter, trianglesAfter}
 use Rattle.build.proofs.Answering.{order-granted, done-room}
@@ -70,8 +69,7 @@ module _ (o : Order) where
     -- ---- positions and triangles, at the fronts of their lists
 
     pub positions-three : length (orderPositions o) ≡ length (orderVertices o) * 3
-    unfolding positionAt
-    positions-three = positions-length (positionAt (o .frame) (o .sides) (o .samples)) 3 (λ s es. refl) (orderVertices o)
+    positions-three = appended.positions-three (o .frame) (o .sides) (o .samples) (orderVertices o)
 
     -- every corner is a vertex
     pub corners-below : All (λ x. x < length (orderVertices o)) (orderTriangles o)

@@ -34,13 +34,13 @@ use Rattle.stages.proofs.Longer.{round-longer, split-longer}
 use Rattle.stages.proofs.Room.{stage-count}
 use Rattle.stages.proofs.Rounds.{done-none, rounds-none}
 use Rattle.stages.proofs.Stages.{given-case, rounds-stage, split-stage}
-use Rattle.flags.specs.Flags.{EndsFit, EndsUnder, Flaggable, endIn, fitting, sideFlags, withFlags}
-use Rattle.flags.proofs.Meshes.{mesh-ends-fit, mesh-ends-under, mesh-flaggable, sites-cells}
-use Rattle.flags.proofs.Meaning.{fits-under, flag-read, sides-length}
-use Rattle.flags.proofs.Split.{calm-count, calm-split, ends-flagged}
-use Rattle.flags.proofs.Rollback.{calm-owners}
-use Rattle.passes.specs.Passing.{flagOf}
-use Rattle.passes.proofs.Passing.{place-never, place-pairs}
+use Rattle.crowded.specs.Inner.Flags.{EndsFit, EndsUnder, Flaggable, endIn, fitting, sideFlags, withFlags}
+use Rattle.crowded.proofs.Meshes.{mesh-ends-fit, mesh-ends-under, mesh-flaggable, sites-cells}
+use Rattle.crowded.proofs.Meaning.{fits-under, flag-read, sides-length}
+use Rattle.crowded.proofs.Split.{calm-count, calm-split, ends-flagged}
+use Rattle.crowded.proofs.Rollback.{calm-owners}
+use Rattle.vertex_pass.specs.Inner.Passing.{flagOf}
+use Rattle.vertex_pass.proofs.Passing.{place-never, place-pairs}
 use Rattle.rollback.proofs.Holding.{round-more}
 use Rattle.build.specs.declared.Drawn.{Drawn}
 use Rattle.build.specs.declared.Rolled.{Rolled}

@@ -10,8 +10,8 @@ use Rattle.laws.proofs.Ranges.{each-one-at, each-one-length}
 use Rattle.lattice.specs.declared.Sides.{Sides}
 use Rattle.lattice.specs.Sites.{sites}
 use Rattle.marks.specs.Marks.{maskAt, masksOf}
-use Rattle.marks.specs.Loops.{Sampled}
-use Rattle.passes.specs.Passing.{Masked}
+use Rattle.marks.specs.Inner.Loops.{Sampled}
+use Rattle.vertex_pass.specs.Inner.Passing.{Masked}
 
 module _ (n : Sides) (S : List Float) (h : Float) (m m′ : List ℕ) (e : m′ ≡ masksOf n S h ++ drop (sites n) m) (l : length m ≡ sites n) where
   pub masks-whole : m′ ≡ masksOf n S h

@@ -14,8 +14,8 @@ use Rattle.laws.proofs.Bools.{and-apart}
 use Rattle.lattice.specs.declared.Sides.{Sides}
 use Rattle.lattice.specs.Sites.{SidesFit, sites}
 use Rattle.points.specs.declared.Frame.{Frame}
-use Rattle.tets.specs.March.{march, none}
-use Rattle.tets.specs.Lists as lists
+use Rattle.march.specs.March.{march, none}
+use Rattle.march.specs.Lists as lists
 use Rattle.stages.specs.Vertices.{Vertex, apart, candidates, fresh, held, several}
 use Rattle.stages.specs.Splits.{endOf, place, splitCount, splits}
 use Rattle.stages.specs.Samples.{boxOf}
@@ -23,12 +23,12 @@ use Rattle.stages.specs.Stages.{Stage, parted}
 use Rattle.stages.proofs.Demand.{sample-sound}
 use Rattle.stages.proofs.Table.{stage-painted}
 use Rattle.refusals.specs.Refusals.{most}
-use Rattle.vertices.proofs.Appending.{appended-same, paint-from}
-use Rattle.passes.specs.declared.Walk.{Walk}
-use Rattle.passes.specs.Passing as passing
-use Rattle.passes.specs.Passing.{Ahead, placeBy, start}
-use Rattle.passes.proofs.Passing.{place-pairs, place-same, split-pairs, split-same}
-use Rattle.rollback.specs.Rolling.{Holding}
+use Rattle.site_vertices.proofs.Appending.{appended-same, paint-from}
+use Rattle.vertex_pass.specs.declared.Walk.{Walk}
+use Rattle.vertex_pass.specs.Inner.Passing as passing
+use Rattle.vertex_pass.specs.Inner.Passing.{Ahead, placeBy, start}
+use Rattle.vertex_pass.proofs.Passing.{place-pairs, place-same, split-pairs, split-same}
+use Rattle.rollback.specs.Inner.Rolling.{Holding}
 use Rattle.build.specs.declared.Stand.{Stand}
 use Rattle.build.specs.declared.Drawn.{Drawn}
 use Rattle.build.specs.Standing.{Paired, Standing}

@@ -19,18 +19,18 @@ use Rattle.laws.proofs.Triangles.{flat-length}
 use Rattle.lattice.specs.declared.Sides.{Sides}
 use Rattle.lattice.specs.Sites.{SidesFit, sites, cells}
 use Rattle.points.specs.declared.Frame.{Frame}
-use Rattle.tets.specs.March.{march}
-use Rattle.tets.specs.Lists as lists
+use Rattle.march.specs.March.{march}
+use Rattle.march.specs.Lists as lists
 use Rattle.stages.specs.Meshes.{bookOf, meshOf}
 use Rattle.stages.specs.Rounds.{isIn, owners}
 use Rattle.stages.specs.Samples.{boxOf}
 use Rattle.stages.specs.Stages.{again}
-use Rattle.flags.specs.Flags.{Flaggable, OwnersFit, OwnersUnder, fitting, ownerIn, sideFlags, withFlags}
-use Rattle.flags.proofs.Meshes.{mesh-flaggable, sites-cells}
-use Rattle.flags.proofs.Meaning.{fits-under, flag-read, sides-length}
-use Rattle.flags.proofs.Rollback.{flagged-owner, owners-flags, owners-quiet, stage-owners-fit, stage-owners-under, stage-sites}
-use Rattle.vertices.specs.Appending.{Space}
-use Rattle.rollback.specs.Rolling.{Ready, Rolled, Rolling}
+use Rattle.crowded.specs.Inner.Flags.{Flaggable, OwnersFit, OwnersUnder, fitting, ownerIn, sideFlags, withFlags}
+use Rattle.crowded.proofs.Meshes.{mesh-flaggable, sites-cells}
+use Rattle.crowded.proofs.Meaning.{fits-under, flag-read, sides-length}
+use Rattle.crowded.proofs.Rollback.{flagged-owner, owners-flags, owners-quiet, stage-owners-fit, stage-owners-under, stage-sites}
+use Rattle.site_vertices.specs.Inner.Appending.{Space}
+use Rattle.rollback.specs.Inner.Rolling.{Ready, Rolled, Rolling}
 use Rattle.build.specs.declared.Stand.{Stand}
 use Rattle.build.specs.Standing.{Lent, Stood, Turned}
 use Rattle.build.proofs.Standing.{mesh-room, stage-space, stands}

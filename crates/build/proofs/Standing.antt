@@ -13,9 +13,9 @@ use Rattle.laws.proofs.Triangles.{flat-length}
 use Rattle.lattice.specs.declared.Sides.{Sides}
 use Rattle.lattice.specs.Sites.{SidesFit, cells}
 use Rattle.points.specs.declared.Frame.{Frame}
-use Rattle.tets.specs.March.{march}
-use Rattle.tets.specs.Lists as lists
-use Rattle.tets.proofs.March.{march-le}
+use Rattle.march.specs.March.{march}
+use Rattle.march.specs.Lists as lists
+use Rattle.march.proofs.March.{march-le}
 use Rattle.stages.specs.Vertices.{Vertex}
 use Rattle.stages.specs.Meshes.{fieldOf, meshOf, tableOf}
 use Rattle.stages.specs.Samples.{boxOf}
@@ -25,8 +25,8 @@ use Rattle.stages.proofs.Demand.{edges-most}
 use Rattle.stages.proofs.Marched.{mesh-marched}
 use Rattle.refusals.specs.Refusals.{most}
 use Rattle.refusals.proofs.Status.{most-most}
-use Rattle.vertices.specs.Appending.{Space}
-use Rattle.rollback.specs.Rolling.{Holding}
+use Rattle.site_vertices.specs.Inner.Appending.{Space}
+use Rattle.rollback.specs.Inner.Rolling.{Holding}
 use Rattle.rollback.proofs.Fronts.{front-over}
 use Rattle.rollback.proofs.Holding.{holding-again, holding-over}
 use Rattle.build.specs.declared.Stand.{Stand}

@@ -7,7 +7,7 @@ use lib.Dec.{eqb}
 use lib.ListN.{length, drop, replicate}
 use lib.Ieee.{Float}
 use Rattle.laws.specs.Triangles.{flat}
-use Rattle.sides.specs.Sides.{base}
+use Rattle.samples.specs.Sides.{base}
 use Rattle.lattice.specs.declared.Sides.{Sides}
 use Rattle.lattice.specs.Sites.{sites, cells}
 use Rattle.marks.specs.Marks.{masksOf, crossedCount}
@@ -17,8 +17,7 @@ use Rattle.stages.specs.Vertices.{Vertex, candidates}
 use Rattle.stages.specs.Meshes.{tableOf, bookOf, positionsOf, meshOf}
 use Rattle.stages.specs.Splits.{badPairs, split, splitCount}
 use Rattle.stages.specs.Rounds.{built, roundsDone}
-use Rattle.stages.specs.Samples.{boxOf, positionAt}
-use Rattle.passes.specs.Passing.{caseCount}
+use Rattle.stages.specs.Samples.{boxOf, positionAt, caseCount}
 use Rattle.refusals.specs.declared.Lengths.{Lengths}
 use Rattle.refusals.specs.Refusals.{statusOf}
 use Rattle.build.specs.declared.Answer.{Answer}

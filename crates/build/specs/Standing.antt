@@ -18,8 +18,8 @@ use Rattle.stages.specs.Rounds.{built, owners, rollback, rounds, roundsDone}
 use Rattle.stages.specs.Samples.{boxOf}
 use Rattle.stages.specs.Stages.{Stage}
 use Rattle.refusals.specs.Refusals.{most}
-use Rattle.passes.specs.Passing.{Masked, casesTo, flagOf}
-use Rattle.rollback.specs.Rolling.{Holding}
+use Rattle.vertex_pass.specs.Inner.Passing.{Masked, casesTo, flagOf}
+use Rattle.rollback.specs.Inner.Rolling.{Holding}
 use Rattle.build.specs.declared.Stand.{Stand}
 use Rattle.build.specs.declared.Drawn.{Drawn}
 use Rattle.build.specs.declared.Round.{Round}

@@ -5,11 +5,11 @@ use refusals::Lengths;
 ghost use mathlib.Core.Path.{_≡_};
 ghost use Prim.Native.Nat.{_*_, _≤_};
 ghost use lib.ListN.{length, replicate};
-ghost use Rattle.sides.specs.Sides.{base};
+ghost use Rattle.samples.specs.Sides.{base};
 ghost use Rattle.lattice.specs.Sites.{sites, cells};
 ghost use Rattle.marks.specs.Marks.{masksOf, crossedCount};
-ghost use Rattle.marks.specs.Loops.{Sampled};
-ghost use Rattle.passes.specs.Passing.{flagOf};
+ghost use Rattle.marks.specs.Inner.Loops.{Sampled};
+ghost use Rattle.vertex_pass.specs.Inner.Passing.{flagOf};
 ghost use Rattle.build.specs.Answer.{order, status, answerOf, refusedAnswer, masksAfter, tableAfter, positionsAfter, bookAfter, trianglesAfter, edgesAfter};
 ghost use Rattle.build.specs.Standing.{Lent, Drawing, Roomy, Parting, Paired, Placed, Stood, TurnedAll, SettledAll, Finished, madeAnswer};
 
@@ -79,7 +79,7 @@ fn draw(
     requires { ⌜ Drawing n (now samples) h (now masks) (now table) (now positions) (now book) (now tris) × Paired n (now samples) h cluster (flagOf (now flags)) ⌝ }
     ensures { λ r. ⌜ Placed frame n (now (samples .entry)) h cluster (flagOf (now (flags .entry))) (now (positions .entry)) (now (book .entry)) (now (tris .entry)) r (now (table .exit)) (now (positions .exit)) (now (book .exit)) (now (tris .exit)) ⌝ }
 {
-    let walk = passes::draw_box(
+    let walk = vertex_pass::draw_box(
         frame,
         n,
         samples,
@@ -91,7 +91,7 @@ fn draw(
         cluster,
         h,
     );
-    let triangles = tets::march_box(samples, table, tris, n, h);
+    let triangles = march::march_box(samples, table, tris, n, h);
     let vertices = walk.pass.next;
     let split = walk.pass.split;
     let cases = walk.cases;
@@ -126,7 +126,7 @@ fn one_round(
 {
     let a = 36 * lattice::cell_count(n);
     let w = 3 * at.triangles;
-    let more = flags::flag_owners(&tris[..w], book, room, a, table.len() / 7, at.vertices);
+    let more = crowded::flag_owners(&tris[..w], book, room, a, table.len() / 7, at.vertices);
     if !more {
         return Round { more, stand: at };
     }
@@ -142,7 +142,7 @@ fn one_round(
         at.vertices,
         number,
     );
-    let triangles = tets::march_box(samples, table, tris, n, h);
+    let triangles = march::march_box(samples, table, tris, n, h);
     Round {
         more,
         stand: Stand {
@@ -291,7 +291,7 @@ fn make(
     );
     let stand = drawn.stand;
     let w = 3 * stand.triangles;
-    if flags::flag_ends(&tris[..w], room, a, stand.vertices) {
+    if crowded::flag_ends(&tris[..w], room, a, stand.vertices) {
         return remake(
             frame,
             n,

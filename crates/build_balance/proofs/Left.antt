@@ -15,8 +15,8 @@ use Rattle.laws.proofs.Sums.{sum-same}
 use Rattle.laws.proofs.Triangles.{flat-length, flat-same, tris-flat}
 use Rattle.lattice.specs.Sites.{SidesFit, sites}
 use Rattle.marks.specs.Marks.{crossedCount, isCrossed}
-use Rattle.tets.specs.March.{none}
-use Rattle.tets.specs.Runs.{runs}
+use Rattle.march.specs.March.{none}
+use Rattle.march.specs.Runs.{runs}
 use Rattle.stages.specs.Meshes.{bookOf, meshOf, tableOf}
 use Rattle.stages.specs.Rounds.{built}
 use Rattle.stages.specs.Samples.{boxOf, AllFinite}
@@ -29,9 +29,9 @@ use Rattle.build.specs.declared.Answer.{Answer}
 use Rattle.build.specs.Answer.{Order, bookAfter, doneAnswer, orderBook, orderBox, orderTable, orderTriangles, orderVertices, tableAfter, trianglesAfter}
 use Rattle.build.proofs.Answering.{order-granted}
 use Rattle.build.proofs.Fronts.{is-done, is-written}
-use Rattle.surface.specs.Border.{OneSide}
-use Rattle.surface.specs.Left.{Left}
-use Rattle.surface.proofs.Surface.{built-closed, stage-balanced}
+use Rattle.build_balance.specs.Border.{OneSide}
+use Rattle.build_balance.specs.Left.{Left}
+use Rattle.build_balance.proofs.Surface.{built-closed, stage-balanced}
 
 module _ (o : Order) (t k tr : List ℕ) (z : Answer) (t′ k′ tr′ : List ℕ) (D : Left o t k tr z t′ k′ tr′) (F : AllFinite (o .sides) (o .samples)) where
   fit : SidesFit (o .sides)

@@ -12,9 +12,9 @@ use Rattle.lattice.specs.declared.Sides.{Sides}
 use Rattle.lattice.specs.Sites.{SidesFit, sites, inBox, siteOf}
 use Rattle.lattice.proofs.Sites.{site-lt}
 use Rattle.lattice.proofs.OtherEnds.{box-in}
-use Rattle.tets.specs.March.{none, sideAt, vertexAt, march}
-use Rattle.tets.specs.Runs.{runs, crossed}
-use Rattle.tets.specs.Finer.{renamed}
+use Rattle.march.specs.March.{none, sideAt, vertexAt, march}
+use Rattle.march.specs.Runs.{runs, crossed}
+use Rattle.march.specs.Finer.{renamed}
 use Rattle.marks.specs.Marks.{isCrossed}
 use Rattle.stages.specs.Vertices.{Vertex}
 use Rattle.stages.specs.Meshes.{fieldOf, meshOf}
@@ -23,9 +23,9 @@ use Rattle.stages.specs.Samples.{boxOf, AllFinite}
 use Rattle.stages.specs.Stages.{Stage}
 use Rattle.stages.proofs.Stages.{built-stage}
 use Rattle.stages.proofs.Crossed.{crossed-is, crossed-label, march-named}
-use Rattle.closed.specs.Fit.{Fit}
-use Rattle.closed.proofs.Balance.{balance, march-even}
-use Rattle.surface.specs.Border.{OneSide}
+use Rattle.march_balance.specs.Fit.{Fit}
+use Rattle.march_balance.proofs.Balance.{balance, march-even}
+use Rattle.build_balance.specs.Border.{OneSide}
 
 module _ (n : Sides) (S : List Float) (h : Float) (cluster : Bool) (o : Bool) (f : SidesFit n) (F : AllFinite n S) (B : OneSide n S h o) where
   site-in : (u v w : ℕ) → inBox n u v w ≡ true → siteOf n u v w < sites n

@@ -19,9 +19,9 @@ use Rattle.volume.specs.declared.Whole.{Whole}
 use Rattle.volume.specs.Volume.{listsOk, scaleOk, summed, volumeOf}
 use Rattle.volume.proofs.Answers.{fit-lists, answer-sum}
 use Rattle.volume.proofs.Moved.{volume-moved}
-use Rattle.surface.specs.Border.{OneSide}
-use Rattle.surface.specs.Left.{Left}
-use Rattle.surface.proofs.Left.{left-balanced}
+use Rattle.build_balance.specs.Border.{OneSide}
+use Rattle.build_balance.specs.Left.{Left}
+use Rattle.build_balance.proofs.Left.{left-balanced}
 
 -- ---- every build that is done, 32 sites a side too
 

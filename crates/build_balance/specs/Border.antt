@@ -4,7 +4,7 @@ use mathlib.Core.Bool.{Bool, true}
 use mathlib.Core.List.{List}
 use Prim.Native.Nat.{ℕ}
 use lib.Ieee.{Float}
-use Rattle.sides.specs.Sides.{inside}
+use Rattle.samples.specs.Sides.{inside}
 use Rattle.lattice.specs.declared.Sides.{Sides}
 use Rattle.lattice.specs.Sites.{inBox, siteOf, onBorder}
 use Rattle.marks.specs.Marks.{sample}

@@ -8,11 +8,11 @@ use lib.Ieee.{Float, binary64, ofBits}
 use lib.ListN.{length, take, getD, replicate, length-append, length-map}
 use Rattle.lattice.specs.declared.Sides.{Sides}
 use Rattle.points.specs.declared.Frame.{Frame}
-use Rattle.text.specs.declared.Parsed.{Parsed}
-use Rattle.text.specs.CountFile.{CountFile, headForm}
-use Rattle.text.specs.Parsed.{accepted, refusal, Accepted, Refused, parsedAs, ParsedOf}
-use Rattle.text.specs.Answer.{refusalText}
-use Rattle.text.proofs.Files.{file-unique, good-exactly, accepted-samples}
+use Rattle.lines.specs.declared.Parsed.{Parsed}
+use Rattle.lines.specs.CountFile.{CountFile, headForm}
+use Rattle.lines.specs.Parsed.{accepted, refusal, Accepted, Refused, parsedAs, ParsedOf}
+use Rattle.lines.specs.Answer.{refusalText}
+use Rattle.lines.proofs.Files.{file-unique, good-exactly, accepted-samples}
 use Rattle.build.specs.declared.Answer.{Answer}
 use Rattle.build.specs.Answer.{Order, order, answerOf, refusedAnswer, masksAfter, tableAfter, positionsAfter, bookAfter, trianglesAfter, edgesAfter, Lists, lists, lengthsOf, listsAfter}
 use Rattle.count.specs.declared.Built.{Built}

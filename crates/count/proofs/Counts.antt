@@ -6,9 +6,9 @@ use native.Mathlib.Omega.{arith}
 use lib.ListN.{length}
 use Rattle.laws.specs.Written.{Written}
 use Rattle.laws.proofs.Written.{written-unique}
-use Rattle.text.specs.CountFile.{CountFile, headForm}
-use Rattle.text.specs.Answer.{refusalText}
-use Rattle.text.proofs.Files.{file-unique, file-longest}
+use Rattle.lines.specs.CountFile.{CountFile, headForm}
+use Rattle.lines.specs.Answer.{refusalText}
+use Rattle.lines.proofs.Files.{file-unique, file-longest}
 use Rattle.count.specs.Count.{fileAnswer, Counted, file, none, Answered}
 
 pub counted-unique : {s t u : List ℕ} → Counted s t → Counted s u → t ≡ u

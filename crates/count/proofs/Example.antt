@@ -8,11 +8,11 @@ use Rattle.lattice.specs.Sites.{sideOk, sidesOk, cells}
 use Rattle.refusals.specs.Refusals.{settingsOk, siteRoom, vertexRoom, cellRoom, most, statusOf}
 use Rattle.stages.proofs.Examples.{stagesKey}
 use Rattle.topology.specs.Topology.{caseNumber}
-use Rattle.passes.specs.Passing.{isCase, caseCount}
+use Rattle.stages.specs.Samples.{isCase, caseCount}
 use Rattle.build.specs.declared.Answer.{Answer}
 use Rattle.build.specs.Answer.{orderBox, orderVertices, orderCases, doneAnswer, refusedAnswer, answerOf}
-use Rattle.text.specs.Example.{exampleHead, exampleSamples, exampleFile, exampleAnswer, answer-is}
-use Rattle.text.proofs.Example.{example-file}
+use Rattle.lines.specs.Example.{exampleHead, exampleSamples, exampleFile, exampleAnswer, answer-is}
+use Rattle.lines.proofs.Example.{example-file}
 use Rattle.count.specs.Count.{headSides, pointOf, headFrame, floatsOf, workOrder, countsOf, printed, fileAnswer, Counted}
 use Rattle.count.proofs.Counts.{counted-file}
 

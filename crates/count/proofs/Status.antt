@@ -18,7 +18,7 @@ use Rattle.laws.proofs.Sums.{sum-le}
 use Rattle.lattice.specs.declared.Sides.{Sides}
 use Rattle.lattice.specs.Sites as box
 use Rattle.lattice.proofs.Sites.{product-le}
-use Rattle.sides.specs.Sides.{base}
+use Rattle.samples.specs.Sides.{base}
 use Rattle.marks.specs.Marks.{isCrossed, crossedCount}
 use Rattle.points.specs.Limits.{frameOk}
 use Rattle.refusals.specs.declared.Lengths.{Lengths}
@@ -26,10 +26,10 @@ use Rattle.refusals.specs.Refusals.{settingsOk, siteRoom, vertexRoom, cellRoom,
 use Rattle.build.specs.declared.Answer.{Answer}
 use Rattle.build.specs.Answer.{Order, order, status, orderBox, orderVertices, orderCases, doneAnswer, refusedAnswer, answerOf}
 use Rattle.build.proofs.Fronts.{answer-status}
-use Rattle.text.specs.CountFile.{CountFile, sites, sample}
-use Rattle.text.specs.Answer.{answerText, refusalText}
-use Rattle.text.proofs.Lines.{fine-length}
-use Rattle.text.proofs.Printing.{answer-length, refusal-length}
+use Rattle.lines.specs.CountFile.{CountFile, sites, sample}
+use Rattle.lines.specs.Answer.{answerText, refusalText}
+use Rattle.lines.proofs.Lines.{fine-length}
+use Rattle.lines.proofs.Printing.{answer-length, refusal-length}
 use Rattle.count.specs.Count.{headSides, headFrame, floatsOf, fileOrder, workSpace, workOrder, countsOf, printed, fileAnswer, Counted, file, none, Answered}
 
 -- ---- room for 216 sites

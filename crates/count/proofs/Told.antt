@@ -9,9 +9,9 @@ use Rattle.laws.specs.Written.{Within}
 use Rattle.laws.proofs.Written.{written-length, written-unique, within}
 use Rattle.refusals.specs.declared.Lengths.{Lengths}
 use Rattle.stages.specs.Meshes.{meshOf}
-use Rattle.text.specs.CountFile.{CountFile, headForm}
-use Rattle.text.specs.Answer.{refusalText}
-use Rattle.text.proofs.Files.{file-unique}
+use Rattle.lines.specs.CountFile.{CountFile, headForm}
+use Rattle.lines.specs.Answer.{refusalText}
+use Rattle.lines.proofs.Files.{file-unique}
 use Rattle.build.specs.declared.Answer.{Answer}
 use Rattle.build.specs.Answer.{Order, status, orderBox, orderVertices, orderPositions, orderTriangles, refusedAnswer, Lists, lengthsOf, positionsAfter, trianglesAfter}
 use Rattle.build.proofs.Fronts.{answer-status, vertices-are, triangles-are, vertices-lent, triangles-lent, positions-front, positions-reach, triangles-front, triangles-reach}

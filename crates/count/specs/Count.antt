@@ -13,9 +13,9 @@ use Rattle.points.specs.declared.Frame.{Frame}
 use Rattle.build.specs.declared.Answer.{Answer}
 use Rattle.refusals.specs.declared.Lengths.{Lengths}
 use Rattle.build.specs.Answer.{Order, order, answerOf, refusedAnswer, Lists, lengthsOf, listsAfter}
-use Rattle.text.specs.CountFile.{CountFile}
-use Rattle.text.specs.Parsed.{accepted, refusal}
-use Rattle.text.specs.Answer.{answerText, refusalText}
+use Rattle.lines.specs.CountFile.{CountFile}
+use Rattle.lines.specs.Parsed.{accepted, refusal}
+use Rattle.lines.specs.Answer.{answerText, refusalText}
 use Rattle.count.specs.declared.Built.{Built}
 
 -- ---- what the values of a file ask for; a header has nu, nv, nw, method, rounds, and the bits of three origins and three steps

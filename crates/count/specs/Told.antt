@@ -2,8 +2,8 @@
 use mathlib.Core.List.{List}
 use Prim.Native.Nat.{ℕ}
 use Rattle.laws.specs.Written.{Written}
-use Rattle.text.specs.CountFile.{CountFile}
-use Rattle.text.specs.Answer.{refusalText}
+use Rattle.lines.specs.CountFile.{CountFile}
+use Rattle.lines.specs.Answer.{refusalText}
 use Rattle.build.specs.Answer.{Order}
 use Rattle.count.specs.Count.{floatsOf, workOrder}
 

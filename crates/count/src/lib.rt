@@ -3,7 +3,7 @@ use build::Answer;
 use lattice::Sides;
 use points::Frame;
 use points::Point;
-use text::Parsed;
+use lines::Parsed;
 ghost use mathlib.Core.Path.{_≡_};
 ghost use Prim.Native.Nat.{_≤_};
 ghost use lib.ListN.{length};
@@ -102,7 +102,7 @@ pub fn build_file(
 ) -> Built
     ensures { λ r. ⌜ BuiltOf (now (input .entry)) (lists (now (masks .entry)) (now (table .entry)) (now (positions .entry)) (now (book .entry)) (now (triangles .entry)) (now (edges .entry))) (lists (now (masks .exit)) (now (table .exit)) (now (positions .exit)) (now (book .exit)) (now (triangles .exit)) (now (edges .exit))) r ⌝ }
 {
-    let file = text::read_file(input);
+    let file = lines::read_file(input);
     if file.good {
         let head = file.head;
         let bits = file.samples;
@@ -150,10 +150,10 @@ pub fn print(out: &mut [u8], k: usize, a: Answer) -> usize
 {
     let status = a.status as u64;
     if status != 0 {
-        return text::print_refusal(out, 0, status);
+        return lines::print_refusal(out, 0, status);
     }
     let counts = counts_of(k, a);
-    text::print_answer(out, 0, counts)
+    lines::print_answer(out, 0, counts)
 }
 
 // The answer to `input`, put at the front of `out`; what is returned is its length. The rest of `out` stays as it was.

@@ -18,8 +18,8 @@ use Rattle.laws.proofs.Ranges.{eq-or, each-same, each-one-length, each-one-at, 
 use Rattle.laws.proofs.Tails.{back-before, back-from, set-behind}
 use Rattle.pairs.specs.Sides.{next, over, overFlags}
 use Rattle.pairs.proofs.Sides.{flags-length, over-flag-at}
-use Rattle.flags.specs.Flags.{Flaggable, fitting, reach, sideFlags, frontFlags, withFlags, endIn, clusterIn, ownerIn}
-use Rattle.flags.specs.Turns.{Ready, mark, endTurn, badAt, wanted, ownerTurn}
+use Rattle.crowded.specs.Inner.Flags.{Flaggable, fitting, reach, sideFlags, frontFlags, withFlags, endIn, clusterIn, ownerIn}
+use Rattle.crowded.specs.Inner.Turns.{Ready, mark, endTurn, badAt, wanted, ownerTurn}
 
 -- ---- the list as it is prepared
 

@@ -19,14 +19,14 @@ use Rattle.laws.proofs.Triangles.{flat-length}
 use Rattle.lattice.specs.declared.Sides.{Sides}
 use Rattle.lattice.specs.Sites.{SidesFit, cells, sites}
 use Rattle.lattice.proofs.Sites.{product-le, cells-most}
-use Rattle.tets.specs.Cells.{cellTris, onEach}
-use Rattle.tets.specs.March.{none, cornersOf, emitted, march, okAt, proper, resolved, sideAt, siteTris, slab, vertexAt, vertexIn}
-use Rattle.tets.proofs.March.{march-emitted, march-le, march-proper}
+use Rattle.march.specs.Cells.{cellTris, onEach}
+use Rattle.march.specs.March.{none, cornersOf, emitted, march, okAt, proper, resolved, sideAt, siteTris, slab, vertexAt, vertexIn}
+use Rattle.march.proofs.March.{march-emitted, march-le, march-proper}
 use Rattle.stages.specs.Boxes.{Box}
 use Rattle.stages.specs.Vertices.{Vertex}
 use Rattle.stages.specs.Meshes.{fieldOf, find, meshOf}
 use Rattle.stages.proofs.Lookup.{entry-named}
-use Rattle.flags.specs.Flags.{Flaggable, EndsFit, EndsUnder}
+use Rattle.crowded.specs.Inner.Flags.{Flaggable, EndsFit, EndsUnder}
 
 -- where no number passes, none does
 pub any-off : (n : ℕ) (p : ℕ → Bool) → any n p ≡ false → (k : ℕ) → k < n → p k ≡ false

@@ -27,10 +27,10 @@ use Rattle.stages.proofs.Book.{book-length, book-row, cluster-book}
 use Rattle.stages.proofs.Flags.{owns-are}
 use Rattle.stages.proofs.Members.{stage-all}
 use Rattle.stages.proofs.Rounds.{owners-in, owners-none, owners-some}
-use Rattle.flags.specs.Flags.{OwnersFit, clusterIn, ownerIn, OwnersUnder}
-use Rattle.flags.specs.Turns.{wanted}
-use Rattle.flags.proofs.Meaning.{owner-corners, owners-found}
-use Rattle.flags.proofs.Meshes.{any-off, corner-low, mesh-cells, mesh-proper, sites-cells}
+use Rattle.crowded.specs.Inner.Flags.{OwnersFit, clusterIn, ownerIn, OwnersUnder}
+use Rattle.crowded.specs.Inner.Turns.{wanted}
+use Rattle.crowded.proofs.Meaning.{owner-corners, owners-found}
+use Rattle.crowded.proofs.Meshes.{any-off, corner-low, mesh-cells, mesh-proper, sites-cells}
 
 -- ---- the vertex book in a longer list
 

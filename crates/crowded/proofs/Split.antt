@@ -16,8 +16,8 @@ use Rattle.stages.specs.Vertices.{Vertex, candidates, several}
 use Rattle.stages.specs.Meshes.{meshOf}
 use Rattle.stages.specs.Splits.{badPairs, endOf, place, split, splitCount, splits}
 use Rattle.stages.proofs.Flags.{ends-are}
-use Rattle.flags.specs.Flags.{endIn}
-use Rattle.flags.proofs.Meshes.{any-off, mesh-proper}
+use Rattle.crowded.specs.Inner.Flags.{endIn}
+use Rattle.crowded.proofs.Meshes.{any-off, mesh-proper}
 
 -- the flat list of the candidates' mesh
 abbrev first : Box → List ℕ

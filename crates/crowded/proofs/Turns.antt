@@ -13,7 +13,7 @@ use Rattle.laws.specs.Ranges.{any, fold}
 use Rattle.laws.proofs.Bools.{bit-T, T-true}
 use Rattle.laws.proofs.Ranges.{fold-keeps, fold-none, fold-turn, any-more}
 use Rattle.pairs.specs.Sides.{next, over}
-use Rattle.flags.specs.Turns.{Ready, mark, endTurn, flagged, badAt, wanted, ownerTurn}
+use Rattle.crowded.specs.Inner.Turns.{Ready, mark, endTurn, flagged, badAt, wanted, ownerTurn}
 
 pub next-low : (s : List ℕ) → length s % 3 ≡ 0 → (k : ℕ) → k < length s → next k < length s
 unfolding next

@@ -6,8 +6,8 @@ ghost use lib.Dec.{ltb};
 ghost use lib.ListN.{length, getD};
 ghost use Rattle.laws.specs.Ranges.{any, fold};
 ghost use Rattle.pairs.specs.Sides.{over};
-ghost use Rattle.flags.specs.Flags.{Flaggable, EndsFit, EndsUnder, OwnersFit, OwnersUnder, fitting, sideFlags, withFlags, endIn, ownerIn};
-ghost use Rattle.flags.specs.Turns.{Ready, mark, endTurn, flagged, wanted, ownerTurn};
+ghost use Rattle.crowded.specs.Inner.Flags.{Flaggable, EndsFit, EndsUnder, OwnersFit, OwnersUnder, fitting, sideFlags, withFlags, endIn, ownerIn};
+ghost use Rattle.crowded.specs.Inner.Turns.{Ready, mark, endTurn, flagged, wanted, ownerTurn};
 
 // The lower of two numbers.
 fn least(x: usize, y: usize) -> usize

@@ -1,6 +1,6 @@
 -- The table of examples holds: computed, by reading as a function of the bytes. Assumes nothing.
 use mathlib.Core.Path.{refl}
-use Rattle.text.specs.Numbers.{digits, dec}
+use Rattle.lines.specs.Numbers.{digits, dec}
 use Rattle.decimals.specs.Decimals.{pointed, decimal}
 use Rattle.decimals.specs.Examples.{Examples}
 use Rattle.decimals.proofs.Meaning.{readMore, readDec, upward, downward, readSigned, natural-of, signed-of}

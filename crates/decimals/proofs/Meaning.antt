@@ -12,8 +12,8 @@ use borrow.Author.Tests.{lt-ltb, le-ltb, ne-eqb, ltb-true, ltb-false, eqb-true, 
 use mir.Syntax.{w64}
 use mir.Val.{SFits}
 use Rattle.laws.specs.Ints.{sizeOf}
-use Rattle.text.specs.Numbers.{digits, dec}
-use Rattle.text.proofs.Decimals.{dec-small, dec-large}
+use Rattle.lines.specs.Numbers.{digits, dec}
+use Rattle.lines.proofs.Decimals.{dec-small, dec-large}
 use Rattle.decimals.specs.Decimals.{signOf, signedDec}
 use Rattle.decimals.specs.Readers.{NaturalOf, SignedOf, is, none}
 use Rattle.decimals.specs.declared.Natural.{Natural}

@@ -11,8 +11,8 @@ use borrow.Author.Tests.{le-ltb}
 use Rattle.laws.specs.Ints.{sizeOf}
 use Rattle.laws.specs.Written.{Written}
 use Rattle.laws.proofs.Written.{written-none, written-one, written-more}
-use Rattle.text.specs.Numbers.{dec}
-use Rattle.text.proofs.Decimals.{dec-room}
+use Rattle.lines.specs.Numbers.{dec}
+use Rattle.lines.proofs.Decimals.{dec-room}
 use Rattle.decimals.specs.Decimals.{signOf, signedDec, pointed, decimal}
 
 -- ---- a sign

@@ -3,7 +3,7 @@ use mathlib.Core.List.{List, [], _∷_, _++_}
 use Prim.Native.Nat.{ℕ, zero, suc, _+_, _/_, _%_}
 use lib.IntN.{ℤ, pos, negsuc}
 use Rattle.laws.specs.Ints.{sizeOf}
-use Rattle.text.specs.Numbers.{dec}
+use Rattle.lines.specs.Numbers.{dec}
 
 -- a minus, or nothing
 unfoldable pub signOf : ℤ → List ℕ

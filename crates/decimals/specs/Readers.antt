@@ -5,8 +5,8 @@ use Prim.Native.Nat.{ℕ}
 use lib.IntN.{ℤ}
 use mir.Syntax.{w64}
 use mir.Val.{SFits}
-use Rattle.text.specs.Numbers.{dec}
-use Rattle.text.specs.Lines.{Word}
+use Rattle.lines.specs.Numbers.{dec}
+use Rattle.lines.specs.Lines.{Word}
 use Rattle.decimals.specs.Decimals.{signedDec}
 use Rattle.decimals.specs.declared.Natural.{Natural}
 use Rattle.decimals.specs.declared.Natural.the-variants.{NoNatural, Is}

@@ -115,7 +115,7 @@ fn put_pointed(out: &mut [u8], at: usize, k: usize, n: u64) -> usize
     ensures { λ r. ⌜ Written (now (out .entry)) at (pointed k n) (now (out .exit)) r ⌝ }
 {
     if k == 0 {
-        let mid = text::put_dec(out, at, n);
+        let mid = lines::put_dec(out, at, n);
         out[mid] = 46;
         return mid + 1;
     }
@@ -130,7 +130,7 @@ pub fn put_decimal(out: &mut [u8], at: usize, k: usize, n: u64) -> usize
     ensures { λ r. ⌜ Written (now (out .entry)) at (decimal k n) (now (out .exit)) r ⌝ }
 {
     if k == 0 {
-        return text::put_dec(out, at, n);
+        return lines::put_dec(out, at, n);
     }
     put_pointed(out, at, k, n)
 }

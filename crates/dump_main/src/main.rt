@@ -7,7 +7,7 @@ use libc::STDOUT_FILENO;
 ghost use Prim.Native.Nat.{_<_, _≤_};
 ghost use lib.ListN.{length};
 ghost use Rattle.lattice.specs.Sites.{sites};
-ghost use Rattle.marks.specs.Loops.{Sampled};
+ghost use Rattle.marks.specs.Inner.Loops.{Sampled};
 ghost use Rattle.count.specs.Count.{headSides};
 
 const NONE: u32 = 0xFFFF_FFFF;
@@ -72,7 +72,7 @@ fn show_topology(n: Sides, samples: &[f64], s: usize, m: u16, cluster: bool)
     if m == 0 {
         return;
     }
-    let ends = vertices::ends_of(n, samples, s);
+    let ends = site_vertices::ends_of(n, samples, s);
     let r = topology::test_topology(m, cluster, ends, build::THRESHOLD);
     let case = r.case;
     let clusters = r.clusters;
@@ -100,7 +100,7 @@ fn show_cases(n: Sides, samples: &[f64], s: usize)
     requires { ⌜ Sampled n (now samples) × (s < sites n) ⌝ }
 {
     let p = lattice::coordinates(n, s);
-    let c = tets::site_cases(samples, n, p, build::THRESHOLD);
+    let c = march::site_cases(samples, n, p, build::THRESHOLD);
     if c[0] | c[1] | c[2] | c[3] | c[4] | c[5] == 0 {
         return;
     }

@@ -9,7 +9,7 @@ use native.Mathlib.Omega.{arith}
 use lib.ListN.{length, getD, length-append, List·getD-append}
 use borrow.Author.Tests.{lt-ltb, le-ltb}
 use Rattle.laws.proofs.Ranges.{lt-or}
-use Rattle.text.specs.Numbers.{digits, dec}
+use Rattle.lines.specs.Numbers.{digits, dec}
 
 -- ---- digit by digit
 

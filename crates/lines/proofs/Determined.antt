@@ -7,10 +7,10 @@ use Prim.Native.Nat.{ℕ}
 use lib.ListN.{drop}
 use Rattle.laws.specs.Written.{Written}
 use Rattle.laws.proofs.Written.{written-unique}
-use Rattle.text.specs.Numbers.{dec}
-use Rattle.text.specs.Lines.{decLine}
-use Rattle.text.specs.Readers.{starts}
-use Rattle.text.specs.Answer.{answerText, refusalText}
+use Rattle.lines.specs.Numbers.{dec}
+use Rattle.lines.specs.Lines.{decLine}
+use Rattle.lines.specs.Readers.{starts}
+use Rattle.lines.specs.Answer.{answerText, refusalText}
 
 pub has-unique : (s : List ℕ) (at : ℕ) (key : List ℕ) (r q : Bool) → r ≡ starts key (drop at s) → q ≡ starts key (drop at s) → r ≡ q
 has-unique s at key r q a b = a ∙ sym b

@@ -1,12 +1,12 @@
 -- Document 01's example file is a count file of its values, and is read as these. Assumes nothing.
 use mathlib.Core.Path.{_≡_, refl, sym}
 use native.Mathlib.Omega.{arith}
-use Rattle.text.specs.declared.Parsed.{Parsed}
-use Rattle.text.specs.CountFile.{headForm, bodyForm, CountFile}
-use Rattle.text.specs.Parsed.{accepted, ParsedOf}
-use Rattle.text.specs.Example.{exampleHead, exampleSamples, exampleFile, file-is}
-use Rattle.text.proofs.Lines.{fineTest, fine-tested}
-use Rattle.text.proofs.Files.{file-parsed}
+use Rattle.lines.specs.declared.Parsed.{Parsed}
+use Rattle.lines.specs.CountFile.{headForm, bodyForm, CountFile}
+use Rattle.lines.specs.Parsed.{accepted, ParsedOf}
+use Rattle.lines.specs.Example.{exampleHead, exampleSamples, exampleFile, file-is}
+use Rattle.lines.proofs.Lines.{fineTest, fine-tested}
+use Rattle.lines.proofs.Files.{file-parsed}
 
 pub example-file : CountFile exampleFile exampleHead exampleSamples
 unfolding fineTest

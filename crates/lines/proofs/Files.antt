@@ -13,13 +13,13 @@ use borrow.Author.Tests.{le-leb, lt-leb, leb-true}
 use Rattle.laws.specs.Filling.{padded}
 use Rattle.laws.specs.Lists.{total}
 use Rattle.laws.proofs.Lists.{drop-replicate}
-use Rattle.text.specs.declared.Parsed.{Parsed}
-use Rattle.text.specs.Lines.{Field, Dec, lineOf, okOf, lines, Fine, line}
-use Rattle.text.specs.Readers.{Reads, Absent}
-use Rattle.text.specs.CountFile.{headForm, sample, bodyForm, sites, InSize, fileText, FileOf, CountFile}
-use Rattle.text.specs.Parsed.{accepted, refusal, Accepted, parsedAs, ParsedOf}
-use Rattle.text.specs.Parts.{siteCount, countOf, Stored}
-use Rattle.text.proofs.Lines.{lines-same, fine-length, lineMost, lines-most}
+use Rattle.lines.specs.declared.Parsed.{Parsed}
+use Rattle.lines.specs.Lines.{Field, Dec, lineOf, okOf, lines, Fine, line}
+use Rattle.lines.specs.Readers.{Reads, Absent}
+use Rattle.lines.specs.CountFile.{headForm, sample, bodyForm, sites, InSize, fileText, FileOf, CountFile}
+use Rattle.lines.specs.Parsed.{accepted, refusal, Accepted, parsedAs, ParsedOf}
+use Rattle.lines.specs.Parts.{siteCount, countOf, Stored}
+use Rattle.lines.proofs.Lines.{lines-same, fine-length, lineMost, lines-most}
 
 -- ---- the number of sites
 

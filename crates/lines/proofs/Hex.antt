@@ -10,8 +10,8 @@ use lib.Seq.{getD-at}
 use borrow.Author.Tests.{lt-ltb, le-ltb}
 use Rattle.laws.proofs.Lists.{append-apart}
 use Rattle.laws.proofs.Ranges.{lt-or}
-use Rattle.text.specs.Numbers.{hexDigit, hex}
-use Rattle.text.specs.Readers.{hexVal}
+use Rattle.lines.specs.Numbers.{hexDigit, hex}
+use Rattle.lines.specs.Readers.{hexVal}
 
 -- ---- one digit
 

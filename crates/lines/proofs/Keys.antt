@@ -10,9 +10,9 @@ use lib.Dec.{eqb}
 use lib.ListN.{length, getD, drop, drop-of-length-le, length-append, length-drop}
 use lib.Seq.{drop-cons, drop-drop, drop-append-seam}
 use borrow.Author.Tests.{eqb-true, eq-eqb, ne-eqb}
-use Rattle.text.specs.declared.Num.{Num}
-use Rattle.text.specs.declared.Num.the-variants.{Bad, Got}
-use Rattle.text.specs.Readers.{Absent, Line, starts}
+use Rattle.lines.specs.declared.Num.{Num}
+use Rattle.lines.specs.declared.Num.the-variants.{Bad, Got}
+use Rattle.lines.specs.Readers.{Absent, Line, starts}
 
 -- ---- byte by byte
 

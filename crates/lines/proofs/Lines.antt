@@ -14,13 +14,13 @@ use Rattle.laws.specs.Ranges.{each}
 use Rattle.laws.proofs.Bools.{and-apart}
 use Rattle.laws.proofs.Lists.{append-apart}
 use Rattle.laws.proofs.Ranges.{each-first}
-use Rattle.text.specs.declared.Num.{Num}
-use Rattle.text.specs.declared.Num.the-variants.{Bad, Got}
-use Rattle.text.specs.Numbers.{dec, hex}
-use Rattle.text.specs.Lines.{Field, Dec, Hex, lineOf, okOf, lines, Fine, none, line}
-use Rattle.text.specs.Readers.{Reads, Absent, Line}
-use Rattle.text.proofs.Decimals.{dec-same, run-dec, span, lf-no-digit, dec-short, dec-room}
-use Rattle.text.proofs.Hex.{hex-length, hex-same}
+use Rattle.lines.specs.declared.Num.{Num}
+use Rattle.lines.specs.declared.Num.the-variants.{Bad, Got}
+use Rattle.lines.specs.Numbers.{dec, hex}
+use Rattle.lines.specs.Lines.{decLine, Field, Dec, Hex, lineOf, okOf, lines, Fine, none, line}
+use Rattle.lines.specs.Readers.{Reads, Absent, Line}
+use Rattle.lines.proofs.Decimals.{dec-same, run-dec, span, lf-no-digit, dec-short, dec-room}
+use Rattle.lines.proofs.Hex.{hex-length, hex-same}
 
 -- ---- one line
 
@@ -78,9 +78,12 @@ keyOf (Hex key) = key
 pub dec-line-length : (key : List ℕ) (n : ℕ) → length (key ++ (dec n ++ (10 ∷ []))) ≡ length key + (length (dec n) + 1)
 dec-line-length key n = simp length-append
 
+pub dec-line-room : (key : List ℕ) (n : ℕ) → length (decLine key n) ≤ length key + 21
+dec-line-room key n = omega (arith, dec-line-length key n, dec-room n)
+
 pub line-room : (f : Field) (n : ℕ) → length (lineOf f n) ≤ length (keyOf f) + 21
 unfolding lineOf keyOf
-line-room (Dec key) n = rw (dec-line-length key n) (omega (arith, dec-room n))
+line-room (Dec key) n = dec-line-room key n
 line-room (Hex key) n = simp (length-append, hex-length) (omega arith)
 
 -- ---- a run of lines

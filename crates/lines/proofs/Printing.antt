@@ -10,11 +10,11 @@ use Rattle.laws.specs.Ranges.{each}
 use Rattle.laws.proofs.Lists.{append-apart}
 use Rattle.laws.proofs.Written.{written-one, written-more}
 use Rattle.laws.proofs.Ranges.{each-le}
-use Rattle.text.specs.Numbers.{dec}
-use Rattle.text.specs.Lines.{Field, Dec, lineOf, lines, Fine}
-use Rattle.text.specs.Answer.{status, countForm, countField, answerText, refusalText}
-use Rattle.text.proofs.Decimals.{dec-small, dec-large}
-use Rattle.text.proofs.Lines.{keyOf, line-room, lines-each, lines-same}
+use Rattle.lines.specs.Numbers.{dec}
+use Rattle.lines.specs.Lines.{Field, Dec, lineOf, lines, Fine}
+use Rattle.lines.specs.Answer.{status, countForm, countField, answerText, refusalText}
+use Rattle.lines.proofs.Decimals.{dec-small, dec-large}
+use Rattle.lines.proofs.Lines.{keyOf, line-room, lines-each, lines-same}
 
 -- ---- a number
 

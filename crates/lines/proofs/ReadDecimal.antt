@@ -6,10 +6,10 @@ use native.Mathlib.Numerals.{add-one}
 use native.Mathlib.Omega.{arith}
 use lib.ListN.{length, getD, drop, length-append, length-drop, List·getD-append}
 use lib.Seq.{drop-cons}
-use Rattle.text.specs.Numbers.{dec}
-use Rattle.text.specs.Lines.{decEnd, Small}
-use Rattle.text.specs.Readers.{Reads, Absent}
-use Rattle.text.proofs.Decimals.{dec-small, dec-more, Digit, Run, more, run-append, run-dec, lf-no-digit, span, stops, dec-short, dec-long, dec-zero, dec-some}
+use Rattle.lines.specs.Numbers.{dec}
+use Rattle.lines.specs.Lines.{decEnd, Small}
+use Rattle.lines.specs.Readers.{Reads, Absent}
+use Rattle.lines.proofs.Decimals.{dec-small, dec-more, Digit, Run, more, run-append, run-dec, lf-no-digit, span, stops, dec-short, dec-long, dec-zero, dec-some}
 
 pub record Sofar (s : List ℕ) (from n i : ℕ) : Type 0 where
   pub small : n < 1000000000

@@ -9,11 +9,11 @@ use native.Mathlib.Omega.{arith}
 use lib.ListN.{length, getD, drop, length-append, length-drop, List·getD-append, List·getD-eq-default}
 use lib.Seq.{getD-drop, getD-at}
 use Rattle.laws.proofs.Ranges.{lt-or}
-use Rattle.text.specs.Numbers.{hex, hexDigit}
-use Rattle.text.specs.Lines.{hexEnd, Word}
-use Rattle.text.specs.Readers.{Reads, Absent, hexVal}
-use Rattle.text.proofs.Hex.{digit-val, val-le, hex-length, hex-more, hex-at, fits, small-word}
-use Rattle.text.proofs.ReadDecimal.{next-byte}
+use Rattle.lines.specs.Numbers.{hex, hexDigit}
+use Rattle.lines.specs.Lines.{hexEnd, Word}
+use Rattle.lines.specs.Readers.{Reads, Absent, hexVal}
+use Rattle.lines.proofs.Hex.{digit-val, val-le, hex-length, hex-more, hex-at, fits, small-word}
+use Rattle.lines.proofs.ReadDecimal.{next-byte}
 
 pub record Sofar (s : List ℕ) (from n k : ℕ) : Type 0 where
   pub some : k ≤ 16

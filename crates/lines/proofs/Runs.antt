@@ -7,9 +7,9 @@ use native.Mathlib.Numerals.{add-one}
 use native.Mathlib.Omega.{arith}
 use lib.ListN.{length, drop, take, set, getD, length-set}
 use lib.Seq.{take-suc, take-suc-set, split-at, take-length, drop-set-lt, drop-drop}
-use Rattle.text.specs.Lines.{Field, lineOf, okOf, lines, Fine}
-use Rattle.text.specs.Readers.{Reads, Absent}
-use Rattle.text.proofs.Lines.{reads-none, reads-more, absent-more}
+use Rattle.lines.specs.Lines.{Field, lineOf, okOf, lines, Fine}
+use Rattle.lines.specs.Readers.{Reads, Absent}
+use Rattle.lines.proofs.Lines.{reads-none, reads-more, absent-more}
 
 pub record Filled (form : List Field) (s : List ℕ) (from : ℕ) (l vals : List ℕ) (at k : ℕ) : Type 0 where
   pub some : k ≤ length form

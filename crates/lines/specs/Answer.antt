@@ -3,7 +3,7 @@
 use mathlib.Core.List.{List, [], _∷_}
 use Prim.Native.Nat.{ℕ}
 use lib.ListN.{getD}
-use Rattle.text.specs.Lines.{Field, Dec, lineOf, lines}
+use Rattle.lines.specs.Lines.{Field, Dec, lineOf, lines}
 
 -- status=
 abbrev pub status : Field

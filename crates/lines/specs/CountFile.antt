@@ -3,7 +3,7 @@ use mathlib.Core.Path.{_≡_}
 use mathlib.Core.List.{List, [], _∷_, _++_}
 use Prim.Native.Nat.{ℕ, _*_, _≤_}
 use lib.ListN.{getD, replicate}
-use Rattle.text.specs.Lines.{Field, Dec, Hex, lines, Fine}
+use Rattle.lines.specs.Lines.{Field, Dec, Hex, lines, Fine}
 
 -- nu= nv= nw= method= rounds= in decimal; origin0= origin1= origin2= step0= step1= step2= by their bits
 abbrev pub headForm : List Field

@@ -3,10 +3,10 @@ use mathlib.Core.Path.{_≡_, refl}
 use mathlib.Core.List.{List, [], _∷_, _++_}
 use Prim.Native.Nat.{ℕ}
 use lib.ListN.{replicate}
-use Rattle.text.specs.Numbers.{digits, dec, hexDigit, hex}
-use Rattle.text.specs.Lines.{lineOf, lines}
-use Rattle.text.specs.CountFile.{headForm, fileText}
-use Rattle.text.specs.Answer.{answerText, refusalText}
+use Rattle.lines.specs.Numbers.{digits, dec, hexDigit, hex}
+use Rattle.lines.specs.Lines.{lineOf, lines}
+use Rattle.lines.specs.CountFile.{headForm, fileText}
+use Rattle.lines.specs.Answer.{answerText, refusalText}
 
 -- the sides 3, 3, 3, method 1, rounds 4, origin 0, step 1
 abbrev pub exampleHead : List ℕ

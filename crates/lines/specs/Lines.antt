@@ -2,7 +2,7 @@
 -- Assumes nothing.
 use mathlib.Core.List.{List, [], _∷_, _++_}
 use Prim.Native.Nat.{ℕ, _^_, _<_}
-use Rattle.text.specs.Numbers.{dec, hex}
+use Rattle.lines.specs.Numbers.{dec, hex}
 
 abbrev pub decEnd : ℕ → List ℕ
 decEnd n = dec n ++ (10 ∷ [])

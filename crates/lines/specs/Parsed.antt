@@ -5,8 +5,8 @@ use mathlib.Core.List.{List}
 use Prim.Native.Nat.{ℕ}
 use lib.ListN.{length, replicate}
 use Rattle.laws.specs.Filling.{padded}
-use Rattle.text.specs.declared.Parsed.{Parsed}
-use Rattle.text.specs.CountFile.{CountFile}
+use Rattle.lines.specs.declared.Parsed.{Parsed}
+use Rattle.lines.specs.CountFile.{CountFile}
 
 -- the answer for the file of the header values vs and the samples ss, and that for all else
 abbrev pub accepted : List ℕ → List ℕ → Parsed

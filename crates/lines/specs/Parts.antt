@@ -5,12 +5,12 @@ use mathlib.Core.List.{List}
 use Prim.Native.Nat.{ℕ, _*_}
 use lib.Dec.{leb}
 use lib.ListN.{length, drop, take, getD, replicate}
-use Rattle.text.specs.declared.Head.{Head}
-use Rattle.text.specs.declared.Place.{Place}
-use Rattle.text.specs.declared.Place.the-variants.{Bad, At}
-use Rattle.text.specs.Lines.{lines, Fine}
-use Rattle.text.specs.Readers.{Reads, Absent}
-use Rattle.text.specs.CountFile.{headForm, bodyForm}
+use Rattle.lines.specs.declared.Head.{Head}
+use Rattle.lines.specs.declared.Place.{Place}
+use Rattle.lines.specs.declared.Place.the-variants.{Bad, At}
+use Rattle.lines.specs.Lines.{lines, Fine}
+use Rattle.lines.specs.Readers.{Reads, Absent}
+use Rattle.lines.specs.CountFile.{headForm, bodyForm}
 
 -- the header
 abbrev pub noHead : Head

@@ -5,8 +5,8 @@ use mathlib.Core.List.{List, [], _∷_, _++_}
 use Prim.Native.Nat.{ℕ, _+_, _-_, _≤_}
 use lib.Dec.{ltb, eqb}
 use lib.ListN.{length, drop}
-use Rattle.text.specs.declared.Num.{Num}
-use Rattle.text.specs.declared.Num.the-variants.{Bad, Got}
+use Rattle.lines.specs.declared.Num.{Num}
+use Rattle.lines.specs.declared.Num.the-variants.{Bad, Got}
 
 -- at `at` stands what p prints of a, and `next` is past it
 pub record Reads {A : Type 0} (p : A → List ℕ) (ok : A → Type 0) (s : List ℕ) (at : ℕ) (a : A) (next : ℕ) : Type 0 where

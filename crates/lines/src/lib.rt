@@ -4,13 +4,13 @@ ghost use Prim.Native.Nat.{_+_, _≤_, _<_};
 ghost use lib.Dec.{eqb};
 ghost use lib.ListN.{length, drop, getD};
 ghost use Rattle.laws.specs.Written.{Written};
-ghost use Rattle.text.specs.Numbers.{dec};
-ghost use Rattle.text.specs.Lines.{decEnd, hexEnd, decLine, hexLine, Small, Word, lineOf, okOf, lines};
-ghost use Rattle.text.specs.Readers.{Line, starts, hexVal};
-ghost use Rattle.text.specs.CountFile.{headField};
-ghost use Rattle.text.specs.Parsed.{refusal, ParsedOf};
-ghost use Rattle.text.specs.Parts.{siteCount, noHead, HeadOf, SamplesOf};
-ghost use Rattle.text.specs.Answer.{status, countForm, countField, answerText, refusalText};
+ghost use Rattle.lines.specs.Numbers.{dec};
+ghost use Rattle.lines.specs.Lines.{decEnd, hexEnd, decLine, hexLine, Small, Word, lineOf, okOf, lines};
+ghost use Rattle.lines.specs.Readers.{Line, starts, hexVal};
+ghost use Rattle.lines.specs.CountFile.{headField};
+ghost use Rattle.lines.specs.Parsed.{refusal, ParsedOf};
+ghost use Rattle.lines.specs.Parts.{siteCount, noHead, HeadOf, SamplesOf};
+ghost use Rattle.lines.specs.Answer.{status, countForm, countField, answerText, refusalText};
 
 // ---- one line
 

@@ -10,7 +10,7 @@ use Rattle.laws.specs.Lists.{All}
 use Rattle.laws.proofs.Lists.{all-take-more, all-drop-more}
 use Rattle.laws.specs.Written.{Written}
 use Rattle.laws.proofs.Written.{written-more}
-use Rattle.le.specs.Bytes.{bytesOf, valueOf, numberAt, Bytes}
+use Rattle.little_endian.specs.Bytes.{bytesOf, valueOf, numberAt, Bytes}
 
 pub bytes-length : (k n : ℕ) → length (bytesOf k n) ≡ k
 unfolding bytesOf

@@ -3,7 +3,7 @@ ghost use mathlib.Core.Path.{_≡_};
 ghost use Prim.Native.Nat.{_+_, _%_, _≤_, _<_};
 ghost use lib.ListN.{length};
 ghost use Rattle.laws.specs.Written.{Written};
-ghost use Rattle.le.specs.Bytes.{bytesOf, numberAt};
+ghost use Rattle.little_endian.specs.Bytes.{bytesOf, numberAt};
 
 fn low(w: u64) -> u8
     ensures { λ r. ⌜ r ≡ w % 256 ⌝ }

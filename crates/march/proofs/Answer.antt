@@ -9,8 +9,8 @@ use Rattle.laws.specs.Triangles.{flat}
 use Rattle.laws.proofs.Written.{written-plain, written-unique}
 use Rattle.laws.proofs.Triangles.{flat-length}
 use Rattle.lattice.specs.Sites.{cells}
-use Rattle.tets.specs.March.{Field, march}
-use Rattle.tets.proofs.March.{march-le}
+use Rattle.march.specs.March.{Field, march}
+use Rattle.march.proofs.March.{march-le}
 
 -- the triangles first, then the entries that were there; as many as the definition has, and at most twelve a cell
 pub record Marched (F : Field) (tris tris′ : List ℕ) (r : ℕ) : Type 0 where

@@ -18,16 +18,16 @@ use Rattle.tables.specs.Edges.{du, dv, dw, cornerOf}
 use Rattle.tables.specs.Tets.{tetLabel, tetCorner, edgeIn}
 use Rattle.tables.specs.Cases.{mtRow}
 use Rattle.tables.proofs.Cases.{mt-none, mt-all}
-use Rattle.sides.specs.declared.Sample.{Sample}
-use Rattle.sides.specs.declared.Sample.the-variants.{Missing, Value}
-use Rattle.sides.specs.Sides.{inside, finite}
+use Rattle.samples.specs.declared.Sample.{Sample}
+use Rattle.samples.specs.declared.Sample.the-variants.{Missing, Value}
+use Rattle.samples.specs.Sides.{inside, finite}
 use Rattle.lattice.specs.declared.Sides.{Sides}
 use Rattle.lattice.specs.Sites.{inBox, siteOf, step}
-use Rattle.tets.specs.Cells.{Corners, at, caseOf, tetOk, caseNo, onEach, tetTris, cellTris}
-use Rattle.tets.specs.March.{okAt, sideAt, vertexAt, cornersOf, vertexIn, emitted, casesAt, siteTris}
-use Rattle.tets.specs.Samples.{isThere, isBelow, caseFrom, sampleAt, code, codeOf, codesOf, caseBy, caseOn, codeSum}
-use Rattle.tets.specs.Lists.{fieldOf}
-use Rattle.tets.specs.Loop.{Coded}
+use Rattle.march.specs.Cells.{Corners, at, caseOf, tetOk, caseNo, onEach, tetTris, cellTris}
+use Rattle.march.specs.March.{okAt, sideAt, vertexAt, cornersOf, vertexIn, emitted, casesAt, siteTris}
+use Rattle.march.specs.Samples.{isThere, isBelow, caseFrom, sampleAt, code, codeOf, codesOf, caseBy, caseOn, codeSum}
+use Rattle.march.specs.Lists.{fieldOf}
+use Rattle.march.specs.Loop.{Coded}
 
 -- ---- the corners of the tetrahedra
 

@@ -10,10 +10,10 @@ use Rattle.laws.specs.Ranges.{each}
 use Rattle.tables.specs.Edges.{du, dv, dw}
 use Rattle.lattice.specs.declared.Sides.{Sides}
 use Rattle.lattice.specs.Sites.{siteOf, sites, step}
-use Rattle.tets.specs.Samples.{codeOf, codesOf, columnAt, columnOf, joined, sampleAt, valueCode}
-use Rattle.tets.specs.Loop.{Lent}
-use Rattle.tets.proofs.March.{in-box}
-use Rattle.tets.proofs.Walk.{cell-room}
+use Rattle.march.specs.Samples.{codeOf, codesOf, columnAt, columnOf, joined, sampleAt, valueCode}
+use Rattle.march.specs.Loop.{Lent}
+use Rattle.march.proofs.March.{in-box}
+use Rattle.march.proofs.Walk.{cell-room}
 
 -- the corners of a cell are its two columns
 pub columns-codes : (n : Sides) (s : List Float) (h : Float) (u v : ℕ) → joined (columnOf n s h u v) (columnOf n s h (u + 1) v) ≡ codesOf n s h u v

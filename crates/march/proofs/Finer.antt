@@ -25,14 +25,14 @@ use Rattle.tables.proofs.Edges.{steps-lt}
 use Rattle.lattice.specs.declared.Sides.{Sides}
 use Rattle.lattice.specs.Sites.{sites, inBox, siteOf, step}
 use Rattle.lattice.proofs.Sites.{site-lt, step-step}
-use Rattle.tets.specs.Cells.{Corners, at, caseOf, tetOk, caseNo, onEach, tetTris, cellTris}
-use Rattle.tets.specs.March.{Field, none, okAt, sideAt, vertexAt, cornersOf, vertexIn, resolved, proper, emitted, siteTris, slab, march}
-use Rattle.tets.specs.Runs.{crossed}
-use Rattle.tets.specs.Lists.{fieldOf}
-use Rattle.tets.specs.Finer.{edgeNo, byEdge, siteEdges, edgeTris, passes, keptEdges, renamed, Finer, Crossed, Named}
-use Rattle.tets.proofs.Cases.{at-corner}
-use Rattle.tets.proofs.March.{in-box, out-u, out-v, out-w, far-missing, eight}
-use Rattle.tets.proofs.Cases.{cell-none}
+use Rattle.march.specs.Cells.{Corners, at, caseOf, tetOk, caseNo, onEach, tetTris, cellTris}
+use Rattle.march.specs.March.{Field, none, okAt, sideAt, vertexAt, cornersOf, vertexIn, resolved, proper, emitted, siteTris, slab, march}
+use Rattle.march.specs.Runs.{crossed}
+use Rattle.march.specs.Lists.{fieldOf}
+use Rattle.march.specs.Finer.{edgeNo, byEdge, siteEdges, edgeTris, passes, keptEdges, renamed, Finer, Crossed, Named}
+use Rattle.march.proofs.Cases.{at-corner}
+use Rattle.march.proofs.March.{in-box, out-u, out-v, out-w, far-missing, eight}
+use Rattle.march.proofs.Cases.{cell-none}
 
 -- ---- the march by its edges
 

@@ -23,11 +23,11 @@ use Rattle.tables.proofs.Cases.{mt-two}
 use Rattle.lattice.specs.declared.Sides.{Sides}
 use Rattle.lattice.specs.Sites.{siteOf, step}
 use Rattle.lattice.proofs.Sites.{step-add}
-use Rattle.tets.specs.Cells.{caseNo, onEach, tetTris, cellTris}
-use Rattle.tets.specs.March.{Field, none, okAt, sideAt, vertexAt, cornersOf, vertexIn, resolved, proper, emitted, siteTris}
-use Rattle.tets.specs.Samples.{caseOn}
-use Rattle.tets.specs.Lists.{fieldOf}
-use Rattle.tets.specs.Loop.{shown, lookUp, cornerAt, triAt, tetFlat, cellFlat, InTable}
+use Rattle.march.specs.Cells.{caseNo, onEach, tetTris, cellTris}
+use Rattle.march.specs.March.{Field, none, okAt, sideAt, vertexAt, cornersOf, vertexIn, resolved, proper, emitted, siteTris}
+use Rattle.march.specs.Samples.{caseOn}
+use Rattle.march.specs.Lists.{fieldOf}
+use Rattle.march.specs.Loop.{shown, lookUp, cornerAt, triAt, tetFlat, cellFlat, InTable}
 
 -- ---- those that are emitted
 

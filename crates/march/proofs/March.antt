@@ -22,10 +22,10 @@ use Rattle.lattice.specs.declared.Sides.{Sides}
 use Rattle.lattice.specs.declared.Uvw.{Uvw}
 use Rattle.lattice.specs.Sites.{sites, cells, inBox, siteOf, uvwOf, step}
 use Rattle.lattice.proofs.Sites.{uvw-site}
-use Rattle.tets.specs.Cells.{Corners, at, caseOf, tetOk, caseNo, onEach, tetTris, cellTris}
-use Rattle.tets.specs.March.{Field, okAt, sideAt, vertexAt, cornersOf, vertexIn, resolved, proper, emitted, siteTris, slab, march}
-use Rattle.tets.specs.Lists.{deep, layers}
-use Rattle.tets.proofs.Cases.{cell-none}
+use Rattle.march.specs.Cells.{Corners, at, caseOf, tetOk, caseNo, onEach, tetTris, cellTris}
+use Rattle.march.specs.March.{Field, okAt, sideAt, vertexAt, cornersOf, vertexIn, resolved, proper, emitted, siteTris, slab, march}
+use Rattle.march.specs.Lists.{deep, layers}
+use Rattle.march.proofs.Cases.{cell-none}
 
 -- ---- a site whose far corner is past the box gives nothing
 

@@ -10,10 +10,10 @@ use Rattle.tables.proofs.Edges.{steps-lt}
 use Rattle.lattice.specs.declared.Sides.{Sides}
 use Rattle.lattice.specs.Sites.{step}
 use Rattle.lattice.proofs.Sites.{step-add}
-use Rattle.view.specs.View.{valueUvw}
-use Rattle.view.proofs.Laws.{value-box}
-use Rattle.tets.specs.Samples.{sampleAt}
-use Rattle.tets.specs.Loop.{Placed}
+use Rattle.sample_view.specs.View.{valueUvw}
+use Rattle.sample_view.proofs.Laws.{value-box}
+use Rattle.march.specs.Samples.{sampleAt}
+use Rattle.march.specs.Loop.{Placed}
 
 -- the corner c of the cell at (u, v), by the view
 pub corner-view : (n : Sides) (s : List Float) (u v c : ℕ) → Placed n s u v → valueUvw n s (u + c % 2) (v + c / 2 % 2) (c / 4 % 2) ≡ sampleAt n s (step (du c) u) (step (dv c) v) (step (dw c) 0)

@@ -21,15 +21,15 @@ use Rattle.lattice.specs.declared.Sides.{Sides}
 use Rattle.lattice.specs.declared.Uvw.{Uvw}
 use Rattle.lattice.specs.Sites.{SidesFit, InBox, sites, cells, siteOf}
 use Rattle.lattice.proofs.Sites.{layer-most, sites-most}
-use Rattle.sides.specs.Sides.{inside, finite}
-use Rattle.tets.specs.Cells.{Corners, caseNo}
-use Rattle.tets.specs.March.{Field, okAt, sideAt, casesAt, siteTris, slab, march}
-use Rattle.tets.specs.Samples.{codesOf, codeSum}
-use Rattle.tets.specs.Lists.{fieldOf, deep, layers}
-use Rattle.tets.specs.Loop.{lookUp, cellFlat, rowFlat, InTable, Placed, Lent, Lends}
-use Rattle.tets.proofs.Cases.{case-is, outside-none, inside-none}
-use Rattle.tets.proofs.Flat.{cell-flat, look-is}
-use Rattle.tets.proofs.March.{site-le, slab-cells, slab-le, march-pairs, pred-sub, layers-ok, layers-side}
+use Rattle.samples.specs.Sides.{inside, finite}
+use Rattle.march.specs.Cells.{Corners, caseNo}
+use Rattle.march.specs.March.{Field, okAt, sideAt, casesAt, siteTris, slab, march}
+use Rattle.march.specs.Samples.{codesOf, codeSum}
+use Rattle.march.specs.Lists.{fieldOf, deep, layers}
+use Rattle.march.specs.Loop.{lookUp, cellFlat, rowFlat, InTable, Placed, Lent, Lends}
+use Rattle.march.proofs.Cases.{case-is, outside-none, inside-none}
+use Rattle.march.proofs.Flat.{cell-flat, look-is}
+use Rattle.march.proofs.March.{site-le, slab-cells, slab-le, march-pairs, pred-sub, layers-ok, layers-side}
 
 -- ---- one cell
 

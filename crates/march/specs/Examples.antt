@@ -13,13 +13,13 @@ use Rattle.laws.specs.Lists.{keep}
 use Rattle.tables.specs.Edges.{du, dv, dw, cornerOf, labelTo}
 use Rattle.tables.specs.Tets.{tetLabel, tetCorner, tetPair, tetPairs, edgeOf, edgeIn}
 use Rattle.tables.specs.Cases.{mtRow}
-use Rattle.sides.specs.declared.Sample.{Sample}
-use Rattle.sides.specs.declared.Sample.the-variants.{Missing, Value}
-use Rattle.sides.specs.Sides.{base, inside, finite}
+use Rattle.samples.specs.declared.Sample.{Sample}
+use Rattle.samples.specs.declared.Sample.the-variants.{Missing, Value}
+use Rattle.samples.specs.Sides.{base, inside, finite}
 use Rattle.lattice.specs.Sites.{inBox, siteOf, step}
-use Rattle.tets.specs.Cells.{at, caseOf, tetOk, caseNo, onEach, tetTris, cellTris}
-use Rattle.tets.specs.March.{Field, none, okAt, sideAt, vertexAt, cornersOf, vertexIn, resolved, proper, emitted, siteTris, slab, march}
-use Rattle.tets.specs.Samples.{caseFrom}
+use Rattle.march.specs.Cells.{at, caseOf, tetOk, caseNo, onEach, tetTris, cellTris}
+use Rattle.march.specs.March.{Field, none, okAt, sideAt, vertexAt, cornersOf, vertexIn, resolved, proper, emitted, siteTris, slab, march}
+use Rattle.march.specs.Samples.{caseFrom}
 
 abbrev pub whole : Bool → ℕ → Float
 whole minus n = fin minus n (pos 0)

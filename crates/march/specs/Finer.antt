@@ -8,9 +8,9 @@ use Rattle.laws.specs.Lists.{keep}
 use Rattle.laws.specs.Triangles.{Tri}
 use Rattle.lattice.specs.declared.Sides.{Sides}
 use Rattle.lattice.specs.Sites.{siteOf}
-use Rattle.tets.specs.Cells.{onEach, cellTris}
-use Rattle.tets.specs.March.{Field, none, okAt, sideAt, vertexAt, cornersOf, vertexIn, emitted}
-use Rattle.tets.specs.Runs.{crossed}
+use Rattle.march.specs.Cells.{onEach, cellTris}
+use Rattle.march.specs.March.{Field, none, okAt, sideAt, vertexAt, cornersOf, vertexIn, emitted}
+use Rattle.march.specs.Runs.{crossed}
 
 -- the number of the edge l of the site (u, v, w)
 unfoldable pub edgeNo : Sides → ℕ → ℕ → ℕ → ℕ → ℕ

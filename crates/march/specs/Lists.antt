@@ -3,9 +3,9 @@ use mathlib.Core.List.{List}
 use Prim.Native.Nat.{ℕ, _+_, _*_}
 use lib.ListN.{getD}
 use lib.Ieee.{Float, nan}
-use Rattle.sides.specs.Sides.{inside, finite}
+use Rattle.samples.specs.Sides.{inside, finite}
 use Rattle.lattice.specs.declared.Sides.{Sides}
-use Rattle.tets.specs.March.{Field}
+use Rattle.march.specs.March.{Field}
 
 -- the field of a sample list and an edge table, for a threshold
 unfoldable pub fieldOf : Sides → List Float → Float → List ℕ → Field

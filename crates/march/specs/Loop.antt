@@ -12,8 +12,8 @@ use Rattle.tables.specs.Tets.{edgeIn}
 use Rattle.tables.specs.Cases.{mtRow}
 use Rattle.lattice.specs.declared.Sides.{Sides}
 use Rattle.lattice.specs.Sites.{SidesFit, sites, cells}
-use Rattle.tets.specs.Samples.{caseOn}
-use Rattle.tets.specs.March.{Field, emitted, siteTris}
+use Rattle.march.specs.Samples.{caseOn}
+use Rattle.march.specs.March.{Field, emitted, siteTris}
 
 -- the three vertices of a triangle, nothing where it is dropped
 unfoldable pub shown : Tri → List ℕ

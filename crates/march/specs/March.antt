@@ -9,7 +9,7 @@ use Rattle.laws.specs.Triangles.{Tri}
 use Rattle.tables.specs.Edges.{du, dv, dw}
 use Rattle.lattice.specs.declared.Sides.{Sides}
 use Rattle.lattice.specs.Sites.{inBox, siteOf, step}
-use Rattle.tets.specs.Cells.{Corners, caseNo, onEach, cellTris}
+use Rattle.march.specs.Cells.{Corners, caseNo, onEach, cellTris}
 
 -- What a march is over: the box, where a sample is finite, which side it is on, and the vertex of each owned edge by site and label.
 -- Sites go by number. The march is stated for any such lookup of a vertex.

@@ -5,7 +5,7 @@ use lib.Dec.{eqb, ltb}
 use Rattle.laws.specs.Triangles.{Tri}
 use Rattle.tables.specs.Edges.{cornerOf, du, dv, dw}
 use Rattle.lattice.specs.Sites.{inBox, step}
-use Rattle.tets.specs.March.{Field, sideAt}
+use Rattle.march.specs.March.{Field, sideAt}
 
 -- the triangle runs from p to q
 unfoldable pub runs : ℕ → ℕ → Tri → Bool

@@ -9,9 +9,9 @@ use Rattle.laws.specs.Bools.{bit}
 use Rattle.laws.specs.Ranges.{each, sum}
 use Rattle.tables.specs.Edges.{du, dv, dw}
 use Rattle.tables.specs.Tets.{tetCorner}
-use Rattle.sides.specs.declared.Sample.{Sample}
-use Rattle.sides.specs.declared.Sample.the-variants.{Missing, Value}
-use Rattle.sides.specs.Sides.{inside, finite}
+use Rattle.samples.specs.declared.Sample.{Sample}
+use Rattle.samples.specs.declared.Sample.the-variants.{Missing, Value}
+use Rattle.samples.specs.Sides.{inside, finite}
 use Rattle.lattice.specs.declared.Sides.{Sides}
 use Rattle.lattice.specs.Sites.{inBox, siteOf, step}
 

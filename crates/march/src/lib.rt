@@ -10,13 +10,13 @@ ghost use Rattle.laws.specs.Written.{Written};
 ghost use Rattle.laws.specs.Triangles.{flat};
 ghost use Rattle.tables.specs.Edges.{du, dv, dw};
 ghost use Rattle.lattice.specs.Sites.{SidesFit, sites, InBox, step};
-ghost use Rattle.tets.specs.March.{casesAt, siteTris, slab, march};
-ghost use Rattle.tets.specs.Samples.{caseFrom, sampleAt, valueCode, codeOf, codesOf, columnAt, columnOf, joined, caseBy, caseOn, codeSum};
-ghost use Rattle.tets.specs.Lists.{fieldOf};
-ghost use Rattle.tets.specs.Loop.{lookUp, cornerAt, tetFlat, cellFlat, rowFlat, InTable, Coded, Placed, Lent, Lends};
+ghost use Rattle.march.specs.March.{casesAt, siteTris, slab, march};
+ghost use Rattle.march.specs.Samples.{caseFrom, sampleAt, valueCode, codeOf, codesOf, columnAt, columnOf, joined, caseBy, caseOn, codeSum};
+ghost use Rattle.march.specs.Lists.{fieldOf};
+ghost use Rattle.march.specs.Loop.{lookUp, cornerAt, tetFlat, cellFlat, rowFlat, InTable, Coded, Placed, Lent, Lends};
 use lattice::Sides;
 use lattice::Uvw;
-use sides::Sample;
+use samples::Sample;
 
 // An edge without a vertex.
 pub const NONE: u32 = 0xFFFF_FFFF;
@@ -25,8 +25,8 @@ pub const NONE: u32 = 0xFFFF_FFFF;
 fn value_code(v: f64, h: f64) -> usize
     ensures { λ r. ⌜ r ≡ valueCode v h ⌝ }
 {
-    if sides::is_finite(v) {
-        if sides::is_inside(v, h) { 1 } else { 0 }
+    if samples::is_finite(v) {
+        if samples::is_inside(v, h) { 1 } else { 0 }
     } else {
         16
     }
@@ -69,7 +69,7 @@ pub fn corner_sample(s: &[f64], n: Sides, u: usize, v: usize, c: usize) -> Sampl
     let x = u + c % 2;
     let y = v + c / 2 % 2;
     let z = c / 4 % 2;
-    view::sample_uvw(s, n, x, y, z)
+    sample_view::sample_uvw(s, n, x, y, z)
 }
 
 // The numbers of the eight corners of a cell.

@@ -10,13 +10,13 @@ use Rattle.laws.specs.Couples.{Pair, turn, fromTo}
 use Rattle.laws.specs.Triangles.{sidesOf}
 use Rattle.laws.proofs.Couples.{turn-count, same-weigh}
 use Rattle.lattice.specs.Sites.{inBox, siteOf, onBorder}
-use Rattle.tets.specs.March.{Field, none, sideAt, vertexAt, march}
-use Rattle.tets.specs.Runs.{runs, touches}
-use Rattle.tets.proofs.March.{march-proper}
-use Rattle.closed.specs.Fit.{Fit}
-use Rattle.closed.proofs.Triangles.{runs-sides, touch-runs}
-use Rattle.closed.proofs.Telescope.{cells-even}
-use Rattle.closed.proofs.Sites.{sideOut, march-cells, low-side, high-side}
+use Rattle.march.specs.March.{Field, none, sideAt, vertexAt, march}
+use Rattle.march.specs.Runs.{runs, touches}
+use Rattle.march.proofs.March.{march-proper}
+use Rattle.march_balance.specs.Fit.{Fit}
+use Rattle.march_balance.proofs.Triangles.{runs-sides, touch-runs}
+use Rattle.march_balance.proofs.Telescope.{cells-even}
+use Rattle.march_balance.proofs.Sites.{sideOut, march-cells, low-side, high-side}
 
 -- the triangles on a pair are those that run it one way and those that run it the other way
 pub touch-count : (F : Field) (p q : ℕ) → count (touches p q) (march F) ≡ count (runs p q) (march F) + count (runs q p) (march F)

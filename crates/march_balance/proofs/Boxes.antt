@@ -7,7 +7,7 @@ use Rattle.laws.proofs.Sums.{sum-same, sum-zero, sum-plus, sum-next, sum-pos, s
 use Rattle.tables.specs.Edges.{du, dv, dw}
 use Rattle.tables.proofs.Edges.{steps-lt}
 use Rattle.lattice.specs.Sites.{step}
-use Rattle.closed.specs.Faces.{unit}
+use Rattle.march_balance.specs.Faces.{unit}
 
 -- the one of three that belongs to axis x
 unfoldable pub on : ℕ → ℕ → ℕ → ℕ → ℕ

@@ -21,9 +21,9 @@ use Rattle.tables.specs.Edges.{cornerOf, labelTo, du, dv, dw}
 use Rattle.tables.specs.Tets.{tetLabel, tetCorner, tetPair, tetPairs, edgeOf, edgeIn}
 use Rattle.tables.specs.Cases.{mtRow, segment}
 use Rattle.tables.proofs.Cases.{segment-named}
-use Rattle.tets.specs.Cells.{Corners, at, caseOf, tetOk, caseNo, onEach, tetTris, cellTris}
-use Rattle.closed.specs.Faces.{unit, segmentOn, face}
-use Rattle.closed.proofs.Boxes.{on, stepOn}
+use Rattle.march.specs.Cells.{Corners, at, caseOf, tetOk, caseNo, onEach, tetTris, cellTris}
+use Rattle.march_balance.specs.Faces.{unit, segmentOn, face}
+use Rattle.march_balance.proofs.Boxes.{on, stepOn}
 
 -- all corners are there
 unfoldable pub always : Corners

@@ -12,12 +12,12 @@ use Rattle.laws.proofs.Ranges.{all-at, all-at2}
 use Rattle.lattice.specs.declared.Sides.{Sides}
 use Rattle.lattice.specs.Sites.{SidesFit, inBox, siteOf, atEnd, onBorder, step}
 use Rattle.lattice.proofs.OtherEnds.{box-in}
-use Rattle.tets.specs.March.{Field, none, okAt, sideAt, vertexAt, cornersOf, vertexIn, resolved, proper, emitted, siteTris, slab, march}
-use Rattle.tets.specs.Runs.{runs, crossed}
-use Rattle.closed.specs.Fit.{Fit, Own}
-use Rattle.closed.specs.Numbered.{numbered}
-use Rattle.closed.proofs.Cells.{cellKey}
-use Rattle.closed.proofs.Numbered.{numbered-fit, numbered-own, numbered-named}
+use Rattle.march.specs.March.{Field, none, okAt, sideAt, vertexAt, cornersOf, vertexIn, resolved, proper, emitted, siteTris, slab, march}
+use Rattle.march.specs.Runs.{runs, crossed}
+use Rattle.march_balance.specs.Fit.{Fit, Own}
+use Rattle.march_balance.specs.Numbered.{numbered}
+use Rattle.march_balance.proofs.Cells.{cellKey}
+use Rattle.march_balance.proofs.Numbered.{numbered-fit, numbered-own, numbered-named}
 
 -- `unfolding marchKey` opens all that the march of a known box computes by
 unfoldable marchKey : Unit {0}

@@ -13,10 +13,10 @@ use Rattle.lattice.specs.declared.Uvw.{Uvw}
 use Rattle.lattice.specs.Sites.{SidesFit, inBox, siteOf, uvwOf, onBorder, step}
 use Rattle.lattice.proofs.Sites.{sites-most, site-lt, uvw-site}
 use Rattle.lattice.proofs.OtherEnds.{box-in}
-use Rattle.tets.specs.March.{Field, none, sideAt, vertexAt}
-use Rattle.tets.specs.Runs.{crossed}
-use Rattle.closed.specs.Fit.{Fit, Own}
-use Rattle.closed.specs.Numbered.{numbered}
+use Rattle.march.specs.March.{Field, none, sideAt, vertexAt}
+use Rattle.march.specs.Runs.{crossed}
+use Rattle.march_balance.specs.Fit.{Fit, Own}
+use Rattle.march_balance.specs.Numbered.{numbered}
 
 -- a crossed edge is an owned edge of a site of the box
 pub crossed-owned : (F : Field) (u v w l : ℕ) → crossed F u v w l ≡ true → (l < 7) × (inBox (F .box) u v w ≡ true)

@@ -13,18 +13,18 @@ use Rattle.laws.proofs.Lists.{all-map, count-map, count-witness, count-within}
 use Rattle.laws.proofs.Couples.{from-ends, ends-from}
 use Rattle.tables.specs.Edges.{du, dv, dw}
 use Rattle.lattice.specs.Sites.{inBox, step}
-use Rattle.tets.specs.Cells.{onEach, cellTris}
-use Rattle.tets.specs.March.{Field, vertexAt, cornersOf, vertexIn, proper, march}
-use Rattle.tets.specs.Runs.{runs, touches}
-use Rattle.closed.specs.Fit.{Fit, Own}
-use Rattle.closed.proofs.Boxes.{on, stepOn, above, box-one}
-use Rattle.closed.proofs.Cells.{always, crossedIn, sides-named}
-use Rattle.closed.proofs.Triangles.{runs-sides}
-use Rattle.closed.proofs.Telescope.{cellAt, cellRuns, box-runs, corners-8}
-use Rattle.closed.proofs.Sites.{cell-edge, sideOut, corners-in, cell-outer, march-cells}
-use Rattle.closed.proofs.Shared.{cellSides, Fine, all-fine, meet-once}
-use Rattle.tets.proofs.March.{march-proper}
-use Rattle.closed.proofs.Balance.{touch-count, twice-closed}
+use Rattle.march.specs.Cells.{onEach, cellTris}
+use Rattle.march.specs.March.{Field, vertexAt, cornersOf, vertexIn, proper, march}
+use Rattle.march.specs.Runs.{runs, touches}
+use Rattle.march_balance.specs.Fit.{Fit, Own}
+use Rattle.march_balance.proofs.Boxes.{on, stepOn, above, box-one}
+use Rattle.march_balance.proofs.Cells.{always, crossedIn, sides-named}
+use Rattle.march_balance.proofs.Triangles.{runs-sides}
+use Rattle.march_balance.proofs.Telescope.{cellAt, cellRuns, box-runs, corners-8}
+use Rattle.march_balance.proofs.Sites.{cell-edge, sideOut, corners-in, cell-outer, march-cells}
+use Rattle.march_balance.proofs.Shared.{cellSides, Fine, all-fine, meet-once}
+use Rattle.march.proofs.March.{march-proper}
+use Rattle.march_balance.proofs.Balance.{touch-count, twice-closed}
 
 -- the sides of the triangles that are kept are among those of all
 sides-keep : (p q : ℕ) (f : Tri → Bool) (ts : List Tri) → count (fromTo p q) (sidesOf (keep f ts)) ≤ count (fromTo p q) (sidesOf ts)

@@ -23,11 +23,11 @@ use Rattle.tables.specs.Cases.{segment}
 use Rattle.tables.proofs.Edges.{corner-steps}
 use Rattle.lattice.specs.Sites.{step}
 use Rattle.lattice.proofs.Sites.{step-add}
-use Rattle.tets.specs.Cells.{Corners, at, cellTris}
-use Rattle.tets.specs.March.{cornersOf}
-use Rattle.closed.specs.Faces.{unit, segmentOn, face}
-use Rattle.closed.proofs.Boxes.{on, stepOn, stepOn-lt, above}
-use Rattle.closed.proofs.Cells.{always, same, cellKey, crossedIn, crossed-in, face-named}
+use Rattle.march.specs.Cells.{Corners, at, cellTris}
+use Rattle.march.specs.March.{cornersOf}
+use Rattle.march_balance.specs.Faces.{unit, segmentOn, face}
+use Rattle.march_balance.proofs.Boxes.{on, stepOn, stepOn-lt, above}
+use Rattle.march_balance.proofs.Cells.{always, same, cellKey, crossedIn, crossed-in, face-named}
 
 -- ---- what a directed pair of a cell's edges is like
 

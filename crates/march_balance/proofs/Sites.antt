@@ -17,14 +17,14 @@ use Rattle.lattice.specs.declared.Sides.{Sides}
 use Rattle.lattice.specs.Sites.{inBox, atEnd, onBorder, step}
 use Rattle.lattice.proofs.Sites.{step-low, step-high, step-step}
 use Rattle.lattice.proofs.OtherEnds.{box-in, in-box}
-use Rattle.tets.specs.Cells.{Corners, at, onEach, cellTris}
-use Rattle.tets.specs.March.{Field, none, okAt, sideAt, vertexAt, cornersOf, vertexIn, resolved, proper, emitted, siteTris, slab, march}
-use Rattle.tets.specs.Runs.{crossed}
-use Rattle.tets.proofs.March.{site-none}
-use Rattle.closed.specs.Fit.{Fit}
-use Rattle.closed.proofs.Boxes.{on, stepOn, stepOn-lt, above}
-use Rattle.closed.proofs.Cells.{always, cellKey, crossedIn, CrossedIn, crossed-in, cell-crossed}
-use Rattle.closed.proofs.Telescope.{cellAt, cellsOf, corners-8}
+use Rattle.march.specs.Cells.{Corners, at, onEach, cellTris}
+use Rattle.march.specs.March.{Field, none, okAt, sideAt, vertexAt, cornersOf, vertexIn, resolved, proper, emitted, siteTris, slab, march}
+use Rattle.march.specs.Runs.{crossed}
+use Rattle.march.proofs.March.{site-none}
+use Rattle.march_balance.specs.Fit.{Fit}
+use Rattle.march_balance.proofs.Boxes.{on, stepOn, stepOn-lt, above}
+use Rattle.march_balance.proofs.Cells.{always, cellKey, crossedIn, CrossedIn, crossed-in, cell-crossed}
+use Rattle.march_balance.proofs.Telescope.{cellAt, cellsOf, corners-8}
 
 -- ---- corners
 

@@ -16,12 +16,12 @@ use Rattle.tables.specs.Edges.{labelTo, du, dv, dw}
 use Rattle.tables.specs.Tets.{edgeOf}
 use Rattle.tables.proofs.Cases.{segment-none, sides-append}
 use Rattle.lattice.specs.Sites.{step}
-use Rattle.tets.specs.Cells.{at, onEach, cellTris}
-use Rattle.tets.specs.March.{cornersOf, vertexIn, proper}
-use Rattle.closed.specs.Faces.{unit, segmentOn, face}
-use Rattle.closed.proofs.Boxes.{on, above, boxSum, box-same, box-plus, box-sum, box-next}
-use Rattle.closed.proofs.Cells.{always, cell-even}
-use Rattle.closed.proofs.Triangles.{keep-even}
+use Rattle.march.specs.Cells.{at, onEach, cellTris}
+use Rattle.march.specs.March.{cornersOf, vertexIn, proper}
+use Rattle.march_balance.specs.Faces.{unit, segmentOn, face}
+use Rattle.march_balance.proofs.Boxes.{on, above, boxSum, box-same, box-plus, box-sum, box-next}
+use Rattle.march_balance.proofs.Cells.{always, cell-even}
+use Rattle.march_balance.proofs.Triangles.{keep-even}
 
 -- the triangles of the cell at (u, v, w), all of whose corners are there, with sides S and vertices G
 unfoldable pub cellAt : (ℕ → ℕ → ℕ → Bool) → (ℕ → ℕ → ℕ → ℕ → ℕ) → ℕ → ℕ → ℕ → List Tri

@@ -13,8 +13,8 @@ use Rattle.laws.specs.Couples.{turn, fromTo}
 use Rattle.laws.specs.Triangles.{Tri, sidesOf}
 use Rattle.laws.proofs.Bools.{bools-at, and-left, and-right, and-apart}
 use Rattle.laws.proofs.Couples.{turn-from}
-use Rattle.tets.specs.March.{proper}
-use Rattle.tets.specs.Runs.{runs, touches}
+use Rattle.march.specs.March.{proper}
+use Rattle.march.specs.Runs.{runs, touches}
 
 module _ (p q : ℕ) where
   -- how many of the three sides of a triangle run p to q

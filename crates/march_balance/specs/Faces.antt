@@ -4,7 +4,7 @@ use Prim.Native.Nat.{ℕ, _+_, _%_, _^_}
 use Rattle.laws.specs.Couples.{Pair, turn}
 use Rattle.tables.specs.Tets.{edgeOf}
 use Rattle.tables.specs.Cases.{segment}
-use Rattle.tets.specs.Cells.{Corners, at}
+use Rattle.march.specs.Cells.{Corners, at}
 
 -- the corner of a cell that an axis leads to
 unfoldable pub unit : ℕ → ℕ

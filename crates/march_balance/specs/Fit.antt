@@ -4,8 +4,8 @@ use mathlib.Core.Logic.{_≢_}
 use mathlib.Core.Bool.{Bool, true}
 use Prim.Native.Nat.{ℕ}
 use Rattle.lattice.specs.Sites.{inBox, siteOf, onBorder}
-use Rattle.tets.specs.March.{Field, none, sideAt, vertexAt}
-use Rattle.tets.specs.Runs.{crossed}
+use Rattle.march.specs.March.{Field, none, sideAt, vertexAt}
+use Rattle.march.specs.Runs.{crossed}
 
 -- All samples are finite, those on the border of the box are on the one side o, and every crossed edge has a vertex.
 -- Nothing is said of which vertex: crossed edges may be grouped in any way.

@@ -2,7 +2,7 @@
 use mathlib.Core.Bool.{Bool, true}
 use Prim.Native.Nat.{ℕ, _+_, _*_}
 use Rattle.lattice.specs.declared.Sides.{Sides}
-use Rattle.tets.specs.March.{Field}
+use Rattle.march.specs.March.{Field}
 
 -- a box of finite samples with these sides, whose vertices are so numbered
 unfoldable pub numbered : Sides → (ℕ → Bool) → Field

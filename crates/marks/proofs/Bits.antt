@@ -16,9 +16,9 @@ use Rattle.laws.specs.Digits.{isSet}
 use Rattle.laws.proofs.Bools.{bool-ext, and-apart}
 use Rattle.laws.proofs.Ranges.{eq-or, lt-or, fold-or, any-one, any-some}
 use Rattle.laws.proofs.Digits.{set-or-pow}
-use Rattle.sides.specs.declared.Crossing.{Crossing}
-use Rattle.sides.specs.declared.Crossing.the-variants.{SameSide, At}
-use Rattle.sides.specs.Sides.{half, crossing, near}
+use Rattle.samples.specs.declared.Crossing.{Crossing}
+use Rattle.samples.specs.declared.Crossing.the-variants.{SameSide, At}
+use Rattle.samples.specs.Sides.{half, crossing, near}
 use Rattle.tables.specs.Edges.{reverse}
 use Rattle.tables.proofs.Edges.{reverse-low, reverse-high}
 use Rattle.lattice.specs.declared.Sides.{Sides}
@@ -28,7 +28,7 @@ use Rattle.lattice.specs.Sites.{SidesFit, sites}
 use Rattle.lattice.specs.Across.{acrossOf}
 use Rattle.lattice.proofs.OtherEnds.{across-joined, across-back}
 use Rattle.marks.specs.Marks.{sample, beyond, markedBy, marked}
-use Rattle.marks.specs.Loops.{setBit, markCrossing, markTo, markLabel, markSite, markSites}
+use Rattle.marks.specs.Inner.Loops.{setBit, markCrossing, markTo, markLabel, markSite, markSites}
 use Rattle.marks.proofs.Layers.{length-label, length-site}
 
 -- bit e of entry x

@@ -11,9 +11,9 @@ use lib.Ieee.{Float, lt}
 use Rattle.laws.specs.Bools.{bit}
 use Rattle.laws.specs.Ranges.{sum}
 use Rattle.laws.proofs.Sums.{sum-same, sum-plus, sum-add, sum-swap, sum-shift, mask-ones}
-use Rattle.sides.specs.declared.Crossing.{Crossing}
-use Rattle.sides.specs.declared.Crossing.the-variants.{SameSide, At}
-use Rattle.sides.specs.Sides.{half, crossing, near, crosses}
+use Rattle.samples.specs.declared.Crossing.{Crossing}
+use Rattle.samples.specs.declared.Crossing.the-variants.{SameSide, At}
+use Rattle.samples.specs.Sides.{half, crossing, near, crosses}
 use Rattle.tables.specs.Edges.{reverse, cornerOf, du, dv, dw}
 use Rattle.tables.proofs.Edges.{reverse-low, reverse-high}
 use Rattle.lattice.specs.declared.Sides.{Sides}

@@ -15,9 +15,9 @@ use Rattle.laws.specs.Ranges.{fold}
 use Rattle.laws.proofs.Bools.{bool-ext}
 use Rattle.laws.proofs.Ranges.{fold-same, fold-rows, fold-behind, fold-keeps}
 use Rattle.laws.proofs.Tails.{set-behind}
-use Rattle.sides.specs.declared.Crossing.{Crossing}
-use Rattle.sides.specs.declared.Crossing.the-variants.{SameSide, At}
-use Rattle.sides.specs.Sides.{half, crossing}
+use Rattle.samples.specs.declared.Crossing.{Crossing}
+use Rattle.samples.specs.declared.Crossing.the-variants.{SameSide, At}
+use Rattle.samples.specs.Sides.{half, crossing}
 use Rattle.tables.specs.Edges.{cornerOf, du, dv, dw}
 use Rattle.tables.proofs.Edges.{steps-lt}
 use Rattle.lattice.specs.declared.Sides.{Sides}
@@ -29,7 +29,7 @@ use Rattle.lattice.specs.Across.{upward, acrossOf}
 use Rattle.lattice.proofs.Sites.{uvw-site, step-add}
 use Rattle.lattice.proofs.OtherEnds.{across-up}
 use Rattle.marks.specs.Marks.{sample}
-use Rattle.marks.specs.Loops.{setBit, markCrossing, markTo, markLabel, markSite, markSites, fromLayer, markLayer, layerTurn, markLayers}
+use Rattle.marks.specs.Inner.Loops.{setBit, markCrossing, markTo, markLabel, markSite, markSites, fromLayer, markLayer, layerTurn, markLayers}
 
 -- ---- the site across an edge that leads up, in the box and in the box from layer w on
 

@@ -6,7 +6,7 @@ use Prim.Native.Nat.{ℕ, _<_}
 use lib.Dec.{ltb}
 use lib.Ieee.{Float}
 use Rattle.laws.proofs.Digits.{mask-same}
-use Rattle.sides.specs.Sides.{crossing, near}
+use Rattle.samples.specs.Sides.{crossing, near}
 use Rattle.lattice.specs.declared.Sides.{Sides}
 use Rattle.lattice.specs.declared.OtherEnd.{OtherEnd}
 use Rattle.lattice.specs.declared.OtherEnd.the-variants as end

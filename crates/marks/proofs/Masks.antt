@@ -15,9 +15,9 @@ use Rattle.laws.specs.Ranges.{any, each}
 use Rattle.laws.specs.Digits.{isSet, mask}
 use Rattle.laws.proofs.Ranges.{eq-or, lt-or, fold-inv, each-one-length, each-one-at}
 use Rattle.laws.proofs.Digits.{digit-is, digit-zero, digit-unset, digit-ext, mask-digit, mask-lt}
-use Rattle.sides.specs.declared.Crossing.{Crossing}
-use Rattle.sides.specs.declared.Crossing.the-variants.{SameSide, At}
-use Rattle.sides.specs.Sides.{half, crossing}
+use Rattle.samples.specs.declared.Crossing.{Crossing}
+use Rattle.samples.specs.declared.Crossing.the-variants.{SameSide, At}
+use Rattle.samples.specs.Sides.{half, crossing}
 use Rattle.lattice.specs.declared.Sides.{Sides}
 use Rattle.lattice.specs.declared.OtherEnd.{OtherEnd}
 use Rattle.lattice.specs.declared.OtherEnd.the-variants as end
@@ -25,7 +25,7 @@ use Rattle.lattice.specs.Sites.{SidesFit, sites}
 use Rattle.lattice.specs.Across.{acrossOf}
 use Rattle.lattice.proofs.OtherEnds.{across-joined}
 use Rattle.marks.specs.Marks.{sample, marked, maskAt, masksOf}
-use Rattle.marks.specs.Loops.{setBit, markCrossing, markTo, markLabel, markSite, markSites, markLayers, zeroed}
+use Rattle.marks.specs.Inner.Loops.{setBit, markCrossing, markTo, markLabel, markSite, markSites, markLayers, zeroed}
 use Rattle.marks.proofs.Layers.{layers-are}
 use Rattle.marks.proofs.Bits.{bitOf, hits, sites-bit, hits-marked}
 

@@ -13,7 +13,7 @@ use Rattle.laws.specs.Ranges.{fold, sum}
 use Rattle.laws.proofs.Ranges.{fold-rows}
 use Rattle.laws.proofs.Bools.{bit-le}
 use Rattle.laws.proofs.Sums.{sum-rows, sum-same, sum-le}
-use Rattle.sides.specs.Sides.{inside, crossing, crosses}
+use Rattle.samples.specs.Sides.{inside, crossing, crosses}
 use Rattle.lattice.specs.declared.Sides.{Sides}
 use Rattle.lattice.specs.declared.Uvw.{Uvw}
 use Rattle.lattice.specs.declared.OtherEnd.{OtherEnd}
@@ -23,7 +23,7 @@ use Rattle.lattice.specs.Across.{acrossOf}
 use Rattle.lattice.proofs.Sites.{site-lt, sites-most}
 use Rattle.lattice.proofs.OtherEnds.{across-joined}
 use Rattle.marks.specs.Marks.{sample, crossedBy, isCrossed, crossedCount}
-use Rattle.marks.specs.Loops.{markTo, markCrossing, markLabel, markSite, markSites, markRow, markLayer, fromLayer, crossSite, crossSites, crossRow, crossLayer, Room, Sampled}
+use Rattle.marks.specs.Inner.Loops.{markTo, markCrossing, markLabel, markSite, markSites, markRow, markLayer, fromLayer, crossSite, crossSites, crossRow, crossLayer, Room, Sampled}
 use Rattle.marks.proofs.Layers.{below, shifted, across-shift}
 
 pub room-kept : {n : Sides} {S : List Float} {m m′ : List ℕ} → Room n S m → length m′ ≡ length m → Room n S m′

@@ -10,9 +10,9 @@ use lib.Ieee.{Float, nan, lt}
 use Rattle.laws.specs.Bools.{bit}
 use Rattle.laws.specs.Ranges.{each, sum}
 use Rattle.laws.specs.Digits.{mask}
-use Rattle.sides.specs.declared.Crossing.{Crossing}
-use Rattle.sides.specs.declared.Crossing.the-variants.{SameSide, At}
-use Rattle.sides.specs.Sides.{half, crossing, near, crosses}
+use Rattle.samples.specs.declared.Crossing.{Crossing}
+use Rattle.samples.specs.declared.Crossing.the-variants.{SameSide, At}
+use Rattle.samples.specs.Sides.{half, crossing, near, crosses}
 use Rattle.lattice.specs.declared.Sides.{Sides}
 use Rattle.lattice.specs.declared.OtherEnd.{OtherEnd}
 use Rattle.lattice.specs.declared.OtherEnd.the-variants as end

@@ -3,7 +3,7 @@
 use lattice::OtherEnd;
 use lattice::Sides;
 use lattice::Uvw;
-use sides::Crossing;
+use samples::Crossing;
 ghost use mathlib.Core.Path.{_≡_};
 ghost use mathlib.Core.List.{_++_};
 ghost use Prim.Native.Nat.{_+_, _*_, _<_, _≤_};
@@ -11,7 +11,7 @@ ghost use lib.ListN.{length, drop};
 ghost use Rattle.lattice.specs.Sites.{InBox, sites, siteOf};
 ghost use Rattle.laws.specs.Bools.{bit};
 ghost use Rattle.marks.specs.Marks.{masksOf, isCrossed, crossedCount};
-ghost use Rattle.marks.specs.Loops.{setBit, markCrossing, markLabel, markSite, markRow, markLayer, markLayers, zeroed, Room, Sampled, crossSite, crossRow, crossLayer};
+ghost use Rattle.marks.specs.Inner.Loops.{setBit, markCrossing, markLabel, markSite, markRow, markLayer, markLayers, zeroed, Room, Sampled, crossSite, crossRow, crossLayer};
 
 fn set_bit(masks: &mut [u16], at: usize, bit: usize)
     requires { ⌜ (at < length (now masks)) × (bit < 14) ⌝ }
@@ -47,7 +47,7 @@ fn mark_label(n: Sides, samples: &[f64], masks: &mut [u16], p: Uvw, s: usize, la
     match end {
         OtherEnd::Missing => {}
         OtherEnd::At(t) => {
-            let c = sides::crossing_alpha(samples[s], samples[t], h);
+            let c = samples::crossing_alpha(samples[s], samples[t], h);
             mark_crossing(masks, s, t, label, c);
         }
     }
@@ -129,7 +129,7 @@ fn crosses_at(n: Sides, samples: &[f64], p: Uvw, s: usize, label: usize, h: f64)
     match end {
         OtherEnd::Missing => 0,
         OtherEnd::At(t) => {
-            if sides::is_inside(samples[s], h) == sides::is_inside(samples[t], h) {
+            if samples::is_inside(samples[s], h) == samples::is_inside(samples[t], h) {
                 0
             } else {
                 1

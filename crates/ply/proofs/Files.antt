@@ -5,7 +5,7 @@ use Prim.Native.Nat.{ℕ, _+_, _*_, _≤_, _<_}
 use native.Mathlib.Omega.{arith}
 use lib.ListN.{length, drop, getD}
 use lib.Seq.{drop-at}
-use Rattle.text.proofs.Decimals.{dec-short}
+use Rattle.lines.proofs.Decimals.{dec-short}
 use Rattle.ply.specs.declared.Counts.{Counts}
 use Rattle.ply.specs.Form.{headText, wordsText, facesText, plyText, countOf, sizeOf, PlyFile, OfKind, Headed}
 use Rattle.ply.specs.Parts.{HeaderAt, Body}

@@ -7,10 +7,10 @@ use native.Mathlib.Omega.{arith}
 use lib.ListN.{length, drop, length-append, length-drop}
 use lib.Seq.{drop-drop}
 use Rattle.laws.proofs.Lists.{append-apart}
-use Rattle.text.specs.Lines.{Dec, lineOf, okOf, decLine, Small}
-use Rattle.text.specs.Readers.{Reads, Absent, starts}
-use Rattle.text.proofs.Lines.{line-same}
-use Rattle.text.proofs.Keys.{starts-is, starts-of}
+use Rattle.lines.specs.Lines.{Dec, lineOf, okOf, decLine, Small}
+use Rattle.lines.specs.Readers.{Reads, Absent, starts}
+use Rattle.lines.proofs.Lines.{line-same}
+use Rattle.lines.proofs.Keys.{starts-is, starts-of}
 use Rattle.ply.specs.Form.{opening, middle, closing, headText, Headed}
 use Rattle.ply.specs.Parts.{HeaderAt}
 

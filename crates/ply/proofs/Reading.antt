@@ -12,9 +12,9 @@ use Rattle.laws.specs.Written.{Written}
 use Rattle.laws.proofs.Lists.{all-member, all-index}
 use Rattle.laws.proofs.Blocks.{each-length, block-at, blocks, part-of, block-entry, three}
 use Rattle.laws.proofs.Ranges.{lt-or, each-same, each-all, each-one-length, each-one-at}
-use Rattle.text.specs.Lines.{Small}
-use Rattle.le.specs.Bytes.{bytesOf, numberAt, Bytes}
-use Rattle.le.proofs.Bytes.{bytes-length, bytes-there, number-there, number-less}
+use Rattle.lines.specs.Lines.{Small}
+use Rattle.little_endian.specs.Bytes.{bytesOf, numberAt, Bytes}
+use Rattle.little_endian.proofs.Bytes.{bytes-length, bytes-there, number-there, number-less}
 use Rattle.ply.specs.Form.{headText, wordsText, faceText, facesText, plyText, countOf, Fit, PlyFile, OfKind}
 use Rattle.ply.specs.Parts.{HeaderAt, wordsIn, faceAt, facesIn, FaceFit, FacesFit, Body, Whole}
 use Rattle.ply.proofs.Heads.{Three, head-same, head-within}

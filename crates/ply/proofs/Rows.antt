@@ -7,13 +7,13 @@ use native.Mathlib.Omega.{arith}
 use lib.ListN.{length, drop, getD}
 use Rattle.laws.specs.Lists.{All}
 use Rattle.laws.specs.Ranges.{each}
-use Rattle.le.specs.Bytes.{bytesOf, valueOf, numberAt}
-use Rattle.text.specs.Numbers.{digits, dec}
-use Rattle.text.specs.Lines.{decEnd, decLine, Small}
-use Rattle.text.specs.Readers as text
-use Rattle.text.specs.declared.Num.the-variants.{Bad}
-use Rattle.text.proofs.Keys.{no-key, after-key}
-use Rattle.text.proofs.ReadDecimal.{bad-zero, bad-long, no-digit}
+use Rattle.little_endian.specs.Bytes.{bytesOf, valueOf, numberAt}
+use Rattle.lines.specs.Numbers.{digits, dec}
+use Rattle.lines.specs.Lines.{decEnd, decLine, Small}
+use Rattle.lines.specs.Readers as text
+use Rattle.lines.specs.declared.Num.the-variants.{Bad}
+use Rattle.lines.proofs.Keys.{no-key, after-key}
+use Rattle.lines.proofs.ReadDecimal.{bad-zero, bad-long, no-digit}
 use Rattle.ply.specs.declared.Counts.{Counts}
 use Rattle.ply.specs.Form.{opening, middle, closing, headText, wordsText, faceText, facesText, plyText, Fit, Fits, PlyFile, OfKind, Headed}
 use Rattle.ply.specs.Parts.{HeaderAt, Body}

@@ -10,11 +10,11 @@ use Rattle.laws.specs.Written.{Written}
 use Rattle.laws.proofs.Blocks.{each-length}
 use Rattle.laws.proofs.Lists.{all-index}
 use Rattle.laws.proofs.Written.{written-one, written-more, written-length}
-use Rattle.text.specs.Numbers.{dec}
-use Rattle.text.specs.Lines.{decLine}
-use Rattle.text.proofs.Lines.{dec-line-length}
-use Rattle.le.specs.Bytes.{bytesOf}
-use Rattle.le.proofs.Bytes.{bytes-length}
+use Rattle.lines.specs.Numbers.{dec}
+use Rattle.lines.specs.Lines.{decLine}
+use Rattle.lines.proofs.Lines.{dec-line-length}
+use Rattle.little_endian.specs.Bytes.{bytesOf}
+use Rattle.little_endian.proofs.Bytes.{bytes-length}
 use Rattle.ply.specs.Form.{opening, middle, closing, headText, wordsText, faceText, facesText, plyText, countOf, sizeOf, Fits, Fit, PlyFile}
 use Rattle.ply.specs.declared.Wrote.{Wrote}
 use Rattle.ply.specs.Answers.{unwritten, wrote, fileLength, WriteOf, done, unfit, no-room}

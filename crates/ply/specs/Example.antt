@@ -3,8 +3,8 @@ use mathlib.Core.Path.{_≡_, refl}
 use mathlib.Core.List.{List, [], _∷_}
 use Prim.Native.Nat.{ℕ}
 use Rattle.laws.specs.Ranges.{each}
-use Rattle.text.specs.Numbers.{digits, dec}
-use Rattle.le.specs.Bytes.{bytesOf}
+use Rattle.lines.specs.Numbers.{digits, dec}
+use Rattle.little_endian.specs.Bytes.{bytesOf}
 use Rattle.ply.specs.Form.{headText, wordsText, faceText, facesText, plyText}
 
 -- 1.0, -0.0, a NaN with a payload, 0.0, the least subnormal, all ones, ..

@@ -6,8 +6,8 @@ use Prim.Native.Nat.{ℕ, _+_, _*_, _/_, _%_, _^_, _<_}
 use lib.ListN.{length, getD}
 use Rattle.laws.specs.Lists.{All}
 use Rattle.laws.specs.Ranges.{each}
-use Rattle.text.specs.Lines.{decLine, Small}
-use Rattle.le.specs.Bytes.{bytesOf}
+use Rattle.lines.specs.Lines.{decLine, Small}
+use Rattle.little_endian.specs.Bytes.{bytesOf}
 
 -- ---- the header, line by line
 

@@ -5,8 +5,8 @@ use Prim.Native.Nat.{ℕ, _+_, _*_, _/_, _≤_, _<_}
 use lib.ListN.{length, drop, getD}
 use Rattle.laws.specs.Ranges.{each}
 use Rattle.laws.specs.Written.{Written}
-use Rattle.text.specs.Lines.{Small}
-use Rattle.le.specs.Bytes.{numberAt}
+use Rattle.lines.specs.Lines.{Small}
+use Rattle.little_endian.specs.Bytes.{numberAt}
 use Rattle.ply.specs.declared.Wrote.{Wrote}
 use Rattle.ply.specs.declared.Head.{Head}
 use Rattle.ply.specs.declared.Head.the-variants.{Bad, Got}

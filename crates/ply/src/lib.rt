@@ -1,12 +1,12 @@
 // PLY files of our kind (document 02, request 1), written and read.
-use text::Num;
+use lines::Num;
 ghost use mathlib.Core.Path.{_≡_};
 ghost use Prim.Native.Nat.{_+_, _*_, _/_, _≤_, _<_};
 ghost use lib.ListN.{length};
 ghost use Rattle.laws.specs.Bools.{Tells};
 ghost use Rattle.laws.specs.Written.{Written};
-ghost use Rattle.text.specs.Numbers.{dec};
-ghost use Rattle.text.specs.Lines.{Small};
+ghost use Rattle.lines.specs.Numbers.{dec};
+ghost use Rattle.lines.specs.Lines.{Small};
 ghost use Rattle.ply.specs.Form.{headText, wordsText, faceText, facesText, sizeOf, Fits};
 ghost use Rattle.ply.specs.Answers.{fileLength, bitsOf, WriteOf, SizesOf, ReadOf, refused};
 ghost use Rattle.ply.specs.Parts.{BeginOf, HeadOf, wordsIn, faceAt, facesIn, FaceFit, FacesFit, LookOf, FindOf};
@@ -21,7 +21,7 @@ fn put_words(out: &mut [u8], at: usize, words: &[u64]) -> usize
     let mut next = at;
     let mut k = 0usize;
     while k < words.len() {
-        next = le::put8(out, next, words[k]);
+        next = little_endian::put8(out, next, words[k]);
         k += 1;
     }
     next
@@ -33,9 +33,9 @@ fn put_face(out: &mut [u8], at: usize, a: u32, b: u32, c: u32) -> usize
     ensures { λ r. ⌜ Written (now (out .entry)) at (faceText a b c) (now (out .exit)) r ⌝ }
 {
     out[at] = 3;
-    let x = le::put4(out, at + 1, le::wider(a));
-    let y = le::put4(out, x, le::wider(b));
-    le::put4(out, y, le::wider(c))
+    let x = little_endian::put4(out, at + 1, little_endian::wider(a));
+    let y = little_endian::put4(out, x, little_endian::wider(b));
+    little_endian::put4(out, y, little_endian::wider(c))
 }
 
 // The faces, appended.
@@ -59,20 +59,20 @@ fn put_head(out: &mut [u8], v: u64, f: u64) -> usize
     requires { ⌜ length (headText v f) ≤ length (now out) ⌝ }
     ensures { λ r. ⌜ Written (now (out .entry)) 0 (headText v f) (now (out .exit)) r ⌝ }
 {
-    let a = text::put_line(
+    let a = lines::put_line(
         out,
         0,
         b"ply\nformat binary_little_endian 1.0\nelement vertex ",
         v,
     );
-    let b = text::put_line(
+    let b = lines::put_line(
         out,
         a,
         b"property double x\nproperty double y\nproperty double z\nelement face ",
         f,
     );
-    let c = text::put_text(out, b, b"property list uchar int vertex_indices\n");
-    text::put_text(out, c, b"end_header\n")
+    let c = lines::put_text(out, b, b"property list uchar int vertex_indices\n");
+    lines::put_text(out, c, b"end_header\n")
 }
 
 // How many digits n has.
@@ -190,7 +190,7 @@ fn put_floats(out: &mut [u8], at: usize, positions: &[f64]) -> usize
     let mut next = at;
     let mut k = 0usize;
     while k < positions.len() {
-        next = le::put8(out, next, points::bits_of_float(positions[k]));
+        next = little_endian::put8(out, next, points::bits_of_float(positions[k]));
         k += 1;
     }
     next
@@ -231,7 +231,7 @@ fn read_head(s: &[u8]) -> Head
     let Num::Got {
         value: vertices,
         next: a,
-    } = text::dec_line(
+    } = lines::dec_line(
         s,
         0,
         b"ply\nformat binary_little_endian 1.0\nelement vertex ",
@@ -242,7 +242,7 @@ fn read_head(s: &[u8]) -> Head
     let Num::Got {
         value: faces,
         next: b,
-    } = text::dec_line(
+    } = lines::dec_line(
         s,
         a,
         b"property double x\nproperty double y\nproperty double z\nelement face ",
@@ -250,7 +250,7 @@ fn read_head(s: &[u8]) -> Head
     else {
         return Head::Bad;
     };
-    if text::has(
+    if lines::has(
         s,
         b,
         b"property list uchar int vertex_indices\nend_header\n",
@@ -272,13 +272,13 @@ fn face_fits(s: &[u8], p: usize, v: usize) -> bool
     if s[p] != 3 {
         return false;
     }
-    if v <= mesh::index(le::get4(s, p + 1)) {
+    if v <= mesh::index(little_endian::get4(s, p + 1)) {
         return false;
     }
-    if v <= mesh::index(le::get4(s, p + 5)) {
+    if v <= mesh::index(little_endian::get4(s, p + 5)) {
         return false;
     }
-    if v <= mesh::index(le::get4(s, p + 9)) {
+    if v <= mesh::index(little_endian::get4(s, p + 9)) {
         return false;
     }
     true
@@ -381,7 +381,7 @@ fn get_words(s: &[u8], at: usize, n: usize, words: &mut [u64]) -> usize
 {
     let mut k = 0usize;
     while k < n {
-        words[k] = le::get8(s, at + k * 8);
+        words[k] = little_endian::get8(s, at + k * 8);
         k += 1;
     }
     k
@@ -392,9 +392,9 @@ fn get_face(s: &[u8], p: usize, triangles: &mut [u32], at: usize) -> usize
     requires { ⌜ (p + 13 ≤ length (now s)) × (at + 3 ≤ length (now triangles)) ⌝ }
     ensures { λ r. ⌜ Written (now (triangles .entry)) at (faceAt (now (s .entry)) p) (now (triangles .exit)) r ⌝ }
 {
-    triangles[at] = le::get4(s, p + 1);
-    triangles[at + 1] = le::get4(s, p + 5);
-    triangles[at + 2] = le::get4(s, p + 9);
+    triangles[at] = little_endian::get4(s, p + 1);
+    triangles[at + 1] = little_endian::get4(s, p + 5);
+    triangles[at + 2] = little_endian::get4(s, p + 9);
     at + 3
 }
 

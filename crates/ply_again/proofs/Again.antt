@@ -8,9 +8,9 @@ use lib.ListN.{length, take, drop, length-take, take-append-drop}
 use lib.Seq.{length-sets, take-append-add}
 use Rattle.laws.specs.Written.{Written, Within}
 use Rattle.laws.proofs.Written.{written-length, written-unique, within}
-use Rattle.text.specs.Answer.{refusalText}
-use Rattle.text.proofs.Printing.{refusal-length}
-use Rattle.text.proofs.Decimals.{dec-short}
+use Rattle.lines.specs.Answer.{refusalText}
+use Rattle.lines.proofs.Printing.{refusal-length}
+use Rattle.lines.proofs.Decimals.{dec-short}
 use Rattle.ply.specs.declared.Wrote.{Wrote}
 use Rattle.ply.specs.declared.Counts.{Counts}
 use Rattle.ply.specs.Form.{headText, countOf, sizeOf, OfKind, Headed}

@@ -3,7 +3,7 @@ use mathlib.Core.List.{List}
 use Prim.Native.Nat.{ℕ, _≤_, _<_}
 use lib.ListN.{length}
 use Rattle.laws.specs.Written.{Written}
-use Rattle.text.specs.Answer.{refusalText}
+use Rattle.lines.specs.Answer.{refusalText}
 use Rattle.ply.specs.Form.{OfKind, Headed}
 
 pub data AgainText (b : ℕ) (s : List ℕ) : List ℕ → Type 0 where

@@ -11,13 +11,13 @@ pub fn again_text(file: &[u8], out: &mut [u8; 131072]) -> usize
     let c = ply::sizes(file);
     let status = c.status;
     if status == 9 {
-        return text::print_refusal(out, 0, 9);
+        return lines::print_refusal(out, 0, 9);
     }
     if 131072 < file.len() {
-        return text::print_refusal(out, 0, 11);
+        return lines::print_refusal(out, 0, 11);
     }
     if status != 0 {
-        return text::print_refusal(out, 0, 10);
+        return lines::print_refusal(out, 0, 10);
     }
     let mut words = [0u64; 16384];
     let mut triangles = [0u32; 32768];

@@ -4,15 +4,15 @@ use mathlib.Core.List.{List, map}
 use Prim.Native.Nat.{ℕ}
 use lib.Ieee.{Float, binary64, ofBits, toBits, le}
 use Rattle.laws.specs.Ranges.{each}
-use Rattle.le.specs.Bytes.{bytesOf}
+use Rattle.little_endian.specs.Bytes.{bytesOf}
 use Rattle.points.specs.Limits.{originOk, stepOk, originsOk, stepsOk, frameOk}
 use Rattle.lattice.specs.Sites.{sideOk, sidesOk, cells}
 use Rattle.refusals.specs.Refusals.{settingsOk, siteRoom, vertexRoom, cellRoom, most, statusOf}
 use Rattle.stages.proofs.Examples.{stagesKey}
 use Rattle.build.specs.Answer.{Order, status, orderBox, orderVertices, orderPositions, orderTriangles}
-use Rattle.text.specs.Numbers.{digits, dec}
-use Rattle.text.specs.Example as count
-use Rattle.text.proofs.Example.{example-file}
+use Rattle.lines.specs.Numbers.{digits, dec}
+use Rattle.lines.specs.Example as count
+use Rattle.lines.proofs.Example.{example-file}
 use Rattle.count.specs.Count.{headSides, pointOf, headFrame, floatsOf, workOrder}
 use Rattle.count.specs.Told.{file}
 use Rattle.ply.specs.Form.{headText, wordsText, faceText, facesText, plyText}

@@ -8,7 +8,7 @@ use lib.Ieee.{binary64, toBits}
 use lib.ListN.{length, length-map}
 use Rattle.laws.specs.Written.{Written}
 use Rattle.laws.proofs.Triangles.{flat-length}
-use Rattle.text.specs.Answer.{refusalText}
+use Rattle.lines.specs.Answer.{refusalText}
 use Rattle.stages.specs.Meshes.{meshOf}
 use Rattle.build.specs.Answer.{Order, status, orderBox, orderVertices, orderPositions, orderTriangles}
 use Rattle.build.proofs.Fronts.{vertices-most, triangles-most, positions-three, corners-below}

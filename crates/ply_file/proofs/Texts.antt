@@ -6,8 +6,8 @@ use native.Mathlib.Omega.{arith}
 use lib.ListN.{length, take}
 use Rattle.laws.specs.Written.{Written, Within}
 use Rattle.stages.specs.Meshes.{meshOf}
-use Rattle.text.specs.Answer.{refusalText}
-use Rattle.text.proofs.Printing.{refusal-length}
+use Rattle.lines.specs.Answer.{refusalText}
+use Rattle.lines.proofs.Printing.{refusal-length}
 use Rattle.build.specs.Answer.{orderBox, orderVertices, Lists, lengthsOf}
 use Rattle.count.specs.declared.Built.{Built}
 use Rattle.count.specs.Count.{workSpace, BuiltOf}

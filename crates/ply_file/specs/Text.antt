@@ -4,7 +4,7 @@ use mathlib.Core.Bool.{cond}
 use mathlib.Core.List.{List}
 use Prim.Native.Nat.{ℕ}
 use lib.Dec.{eqb}
-use Rattle.text.specs.Answer.{refusalText}
+use Rattle.lines.specs.Answer.{refusalText}
 use Rattle.build.specs.Answer.{Order, status, orderPositions, orderTriangles}
 use Rattle.count.specs.Told.{Told, ToldAt}
 use Rattle.ply.specs.Form.{plyText}

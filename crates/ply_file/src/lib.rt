@@ -26,7 +26,7 @@ pub fn ply_text(input: &[u8], out: &mut [u8; 88316]) -> usize
     let answer = built.answer;
     let status = answer.status;
     if status != 0 {
-        return text::print_refusal(out, 0, status as u64);
+        return lines::print_refusal(out, 0, status as u64);
     }
     let v = answer.vertices * 3;
     let t = answer.triangles * 3;

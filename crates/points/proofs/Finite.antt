@@ -9,7 +9,7 @@ use lib.IntN.{pos}
 use lib.Dec.{T, lit≤, lit<}
 use lib.ListN.{length}
 use lib.Ieee.{Float, fin, binary64, low, round, ofInt, ofBits, fits}
-use Rattle.sides.specs.Sides.{finite, inside, pointFraction}
+use Rattle.samples.specs.Sides.{finite, inside, pointFraction}
 use Rattle.lattice.specs.declared.Ijk.{Ijk}
 use Rattle.lattice.specs.declared.Uvw.{Uvw}
 use Rattle.lattice.specs.declared.Sides.{Sides}

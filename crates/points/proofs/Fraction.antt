@@ -12,7 +12,7 @@ use lib.Ieee.{Float, nan, inf, fin, binary64, emax, low, up, down, size, round, 
 use lib.Ieee.Digits.{size-lt, size-reaches, size-le}
 use lib.Ieee.Fits.{down-pos}
 use borrow.Author.Tests.{ltb-true, ltb-false, eq-eqb}
-use Rattle.sides.specs.Sides.{finite, pointFraction}
+use Rattle.samples.specs.Sides.{finite, pointFraction}
 use Rattle.points.proofs.Sizes.{Under}
 use Rattle.points.proofs.Gaps.{Units, units-of, gap-up, gap-down, Least, round-least, fraction-under}
 

@@ -9,7 +9,7 @@ use Rattle.laws.proofs.Ranges.{lt-or}
 use lib.Ieee.{Float, nan, inf, fin, up, down, neg, lt, eq, below}
 use lib.Ieee.Fits.{down-pos}
 use borrow.Author.Tests.{lt-ltb, le-ltb, eqb-true}
-use Rattle.sides.specs.Sides.{finite, inside}
+use Rattle.samples.specs.Sides.{finite, inside}
 
 -- two fractions x / e and y / d that are equal compare alike with k / g
 same-lt : (x y k e d g : ℕ) → 0 < e → 0 < d → x * d ≡ y * e → ltb (x * g) (k * e) ≡ ltb (y * g) (k * d)

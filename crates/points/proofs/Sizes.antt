@@ -11,7 +11,7 @@ use lib.Ieee.{Float, nan, inf, fin, binary64, low, up, down, round, sum, neg, ad
 use lib.Ieee.Fits.{down-pos}
 use lib.Ieee.Exact.{HasValue, round-exact}
 use lib.Ieee.Order.{round-mono}
-use Rattle.sides.specs.Sides.{finite}
+use Rattle.samples.specs.Sides.{finite}
 use Rattle.points.proofs.Rounding.{neg-round, plus, plus-round}
 
 abbrev pub Under : Float → ℕ → Type 0

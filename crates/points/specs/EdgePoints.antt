@@ -1,7 +1,7 @@
 -- The point on an edge: from the marked site towards the neighbour by the fraction of a point; missing where a sample is not finite. Assumes nothing.
 use mathlib.Core.Bool.{_&&_, cond}
 use lib.Ieee.{Float, binary64, add, mul, sub}
-use Rattle.sides.specs.Sides.{finite, pointFraction}
+use Rattle.samples.specs.Sides.{finite, pointFraction}
 use Rattle.lattice.specs.declared.Ijk.{Ijk}
 use Rattle.points.specs.declared.Point.{Point}
 use Rattle.points.specs.declared.Frame.{Frame}

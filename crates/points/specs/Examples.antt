@@ -5,7 +5,7 @@ use mathlib.Core.List.{[], _∷_}
 use Prim.Native.Nat.{ℕ}
 use lib.IntN.{pos}
 use lib.Ieee.{Float, fin, binary64, add, mul, sub, div, neg, ofInt, ofBits, round, le}
-use Rattle.sides.specs.Sides.{finite, pointFraction}
+use Rattle.samples.specs.Sides.{finite, pointFraction}
 use Rattle.lattice.specs.Sites.{ijkOf}
 use Rattle.points.specs.declared.Point.{Point}
 use Rattle.points.specs.declared.Frame.{Frame}

@@ -5,7 +5,7 @@ use mathlib.Core.List.{List, [], _∷_}
 use Prim.Native.Nat.{_<_}
 use lib.Dec.{T}
 use lib.Ieee.{Float, binary64, fits}
-use Rattle.sides.specs.Sides.{inside, finite}
+use Rattle.samples.specs.Sides.{inside, finite}
 use Rattle.lattice.specs.declared.Uvw.{Uvw}
 use Rattle.lattice.specs.Sites.{ijkOf}
 use Rattle.points.specs.declared.Point.{Point}

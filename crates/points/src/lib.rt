@@ -120,11 +120,11 @@ pub fn edge_point(frame: Frame, a: lattice::Uvw, b: lattice::Uvw, p: f64, q: f64
     requires { ⌜ (a .u < 32) × (a .v < 32) × (a .w < 32) × (b .u < 32) × (b .v < 32) × (b .w < 32) ⌝ }
     ensures { λ r. ⌜ r ≡ edgePoint frame (ijkOf (a .u) (a .v) (a .w)) (ijkOf (b .u) (b .v) (b .w)) p q ⌝ }
 {
-    if sides::is_finite(p) {
-        if sides::is_finite(q) {
+    if samples::is_finite(p) {
+        if samples::is_finite(q) {
             let from = position_of(frame, a);
             let to = position_of(frame, b);
-            let t = sides::point_fraction(p, q);
+            let t = samples::point_fraction(p, q);
             return EdgePoint::At(interpolate_points(from, to, t));
         }
     }

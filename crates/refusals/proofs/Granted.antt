@@ -16,7 +16,7 @@ use Rattle.points.specs.declared.Frame.{Frame}
 use Rattle.points.specs.Limits.{frameOk}
 use Rattle.refusals.specs.declared.Lengths.{Lengths}
 use Rattle.refusals.specs.Refusals.{settingsOk, siteRoom, vertexRoom, cellRoom, most, statusOf}
-use Rattle.refusals.specs.Granted.{Granted}
+use Rattle.refusals.specs.Inner.Granted.{Granted}
 use Rattle.refusals.proofs.Status.{Sized, Stored, not-refused}
 
 -- two bounds tested together

@@ -7,7 +7,7 @@ use lib.ListN.{replicate}
 use Rattle.laws.specs.Bools.{bit}
 use Rattle.laws.specs.Ranges.{sum}
 use Rattle.tables.specs.Edges.{cornerOf, du, dv, dw}
-use Rattle.sides.specs.Sides.{base, inside, crossing}
+use Rattle.samples.specs.Sides.{base, inside, crossing}
 use Rattle.lattice.specs.declared.Sides.{Sides}
 use Rattle.lattice.specs.Sites.{sideOk, sidesOk, sites, cells, inBox, siteOf, uvwOf, step}
 use Rattle.lattice.specs.Across.{upward, acrossAt, acrossOf}

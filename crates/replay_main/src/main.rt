@@ -1,7 +1,7 @@
 // Replays a list of inputs: reads many files from standard input, each after a line `file LENGTH`, and prints the answer to each and a line `end`.
 use libc::STDIN_FILENO;
 use libc::STDOUT_FILENO;
-use text::Num;
+use lines::Num;
 ghost use mathlib.Core.Path.{_≡_};
 ghost use lib.ListN.{length};
 
@@ -16,7 +16,7 @@ fn answer(input: &[u8]) {
 fn replay(list: &[u8]) {
     let mut at = 0;
     while at < list.len() {
-        let Num::Got { value, next } = text::dec_line(list, at, b"file ") else {
+        let Num::Got { value, next } = lines::dec_line(list, at, b"file ") else {
             return;
         };
         let n = value as usize;

@@ -16,9 +16,9 @@ use Rattle.stages.specs.Samples.{positionAt}
 use Rattle.stages.specs.Stages.{Stage}
 use Rattle.stages.proofs.Book.{book-length}
 use Rattle.stages.proofs.Turns.{rollback-turns, to-longer}
-use Rattle.vertices.specs.Appending.{Space}
-use Rattle.vertices.proofs.Appending.{positions-three}
-use Rattle.rollback.specs.Rolling.{Holding, Ready, Rolled}
+use Rattle.site_vertices.specs.Inner.Appending.{Space}
+use Rattle.site_vertices.proofs.Appending.{positions-three}
+use Rattle.rollback.specs.Inner.Rolling.{Holding, Ready, Rolled}
 use Rattle.rollback.proofs.Fronts.{front-over}
 
 module _ {f : Frame} {n : Sides} {S : List Float} {b : Box} where

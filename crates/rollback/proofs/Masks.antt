@@ -15,9 +15,9 @@ use Rattle.laws.specs.Digits.{digit, isSet, mask}
 use Rattle.laws.proofs.Digits.{mask-lt}
 use Rattle.lattice.specs.declared.Sides.{Sides}
 use Rattle.stages.specs.Boxes.{owned}
-use Rattle.tets.specs.March.{none}
-use Rattle.vertices.proofs.Drawing.{rest-set, rest-half}
-use Rattle.rollback.specs.Turning.{heldAt, heldMask}
+use Rattle.march.specs.March.{none}
+use Rattle.site_vertices.proofs.Drawing.{rest-set, rest-half}
+use Rattle.rollback.specs.Inner.Turning.{heldAt, heldMask}
 
 -- an entry of a list, whatever is read past its end
 pub getD-any : {A : Type 0} (l : List A) (i : ℕ) (c d : A) → i < length l → getD l i c ≡ getD l i d

@@ -16,14 +16,14 @@ use Rattle.laws.proofs.Ranges.{fold-none}
 use Rattle.lattice.specs.declared.Sides.{Sides}
 use Rattle.lattice.specs.Sites.{sites}
 use Rattle.points.specs.declared.Frame.{Frame}
-use Rattle.tets.specs.March.{none}
+use Rattle.march.specs.March.{none}
 use Rattle.stages.specs.Boxes.{Box}
 use Rattle.stages.specs.Vertices.{Vertex, apart, nobody}
 use Rattle.stages.specs.Meshes.{bookOf, tableOf}
 use Rattle.stages.specs.Rounds.{owners, retire, retired, rollback, rolled}
 use Rattle.stages.specs.Samples.{boxOf}
-use Rattle.stages.specs.Steps.{rollTo, rollTurn}
-use Rattle.stages.specs.Clustered.{Proper}
+use Rattle.stages.specs.Inner.Steps.{rollTo, rollTurn}
+use Rattle.stages.specs.Inner.Clustered.{Proper}
 use Rattle.stages.proofs.Lookup.{times}
 use Rattle.stages.proofs.Longer.{stage-once}
 use Rattle.stages.proofs.Table.{table-length}
@@ -33,9 +33,9 @@ use Rattle.stages.proofs.SampleClusters.{markAt}
 use Rattle.stages.proofs.SampleMarks.{sample-clustered}
 use Rattle.stages.proofs.Demand.{sample-sound}
 use Rattle.stages.proofs.Book.{book-length, book-row, several-book}
-use Rattle.vertices.specs.Appending.{singlesOf}
-use Rattle.rollback.specs.Rolling.{Holding, Ready, Rolled, Rolling}
-use Rattle.rollback.specs.Turning.{Turnable, Turned, due, grown, heldMask}
+use Rattle.site_vertices.specs.Inner.Appending.{singlesOf}
+use Rattle.rollback.specs.Inner.Rolling.{Holding, Ready, Rolled, Rolling}
+use Rattle.rollback.specs.Inner.Turning.{Turnable, Turned, due, grown, heldMask}
 use Rattle.rollback.proofs.Fronts.{front-read}
 use Rattle.rollback.proofs.Holding.{holding-same}
 use Rattle.rollback.proofs.Points.{Dotted, stage-dotted}

@@ -18,24 +18,24 @@ use Rattle.lattice.specs.Sites.{SidesFit}
 use Rattle.lattice.specs.Across.{acrossOf}
 use Rattle.marks.specs.Marks.{maskAt}
 use Rattle.points.specs.declared.Frame.{Frame}
-use Rattle.tets.specs.March.{none}
+use Rattle.march.specs.March.{none}
 use Rattle.stages.specs.Boxes.{Box, owned}
 use Rattle.stages.specs.Vertices.{Vertex, apart, fresh, held, keys, nobody}
 use Rattle.stages.specs.Meshes.{bookOf, numbers, positionsOf, tableOf}
 use Rattle.stages.specs.Rounds.{retired}
 use Rattle.stages.specs.Samples.{boxOf, edgesOf, pointBy, positionAt}
-use Rattle.stages.specs.Steps.{number, paint}
-use Rattle.stages.specs.Clustered.{Proper}
+use Rattle.stages.specs.Inner.Steps.{number, paint}
+use Rattle.stages.specs.Inner.Clustered.{Proper}
 use Rattle.stages.proofs.Lookup.{times}
 use Rattle.stages.proofs.Table.{table-roll}
 use Rattle.stages.proofs.Renumber.{held-entries}
 use Rattle.stages.proofs.SampleClusters.{markAt}
 use Rattle.stages.proofs.SampleMarks.{sample-clustered}
 use Rattle.stages.proofs.Book.{book-append, book-length, book-retire, positions-append, positions-retire}
-use Rattle.vertices.specs.Appending.{paintFrom, pointedOf, singlesOf}
-use Rattle.vertices.proofs.Appending.{positions-three, singles-are}
-use Rattle.rollback.specs.Rolling.{Holding}
-use Rattle.rollback.specs.Turning.{Replaced, heldAt, heldMask}
+use Rattle.site_vertices.specs.Inner.Appending.{paintFrom, pointedOf, singlesOf}
+use Rattle.site_vertices.proofs.Appending.{positions-three, singles-are}
+use Rattle.rollback.specs.Inner.Rolling.{Holding}
+use Rattle.rollback.specs.Inner.Turning.{Replaced, heldAt, heldMask}
 use Rattle.rollback.proofs.Fronts.{front-more, front-set}
 use Rattle.rollback.proofs.Points.{Dotted, held-dots}
 

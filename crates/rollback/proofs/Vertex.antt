@@ -10,9 +10,9 @@ use lib.Ieee.{Float}
 use Rattle.lattice.specs.declared.Sides.{Sides}
 use Rattle.points.specs.declared.Frame.{Frame}
 use Rattle.laws.proofs.Bools.{and-yes}
-use Rattle.vertices.specs.Appending.{Appended, Space, singlesOf}
-use Rattle.vertices.proofs.Appending.{appended-same}
-use Rattle.rollback.specs.Turning.{Replaced, Turned, due, grown, heldMask}
+use Rattle.site_vertices.specs.Inner.Appending.{Appended, Space, singlesOf}
+use Rattle.site_vertices.proofs.Appending.{appended-same}
+use Rattle.rollback.specs.Inner.Turning.{Replaced, Turned, due, grown, heldMask}
 
 module _ (f : Frame) (n : Sides) (S : List Float) (m t : List ℕ) (p : List Float) (k : List ℕ) (i c r d : ℕ) (e : d ≡ heldMask n t (getD k (4 * i) 0) (getD m (getD k (4 * i) 0) 0) i) where
   grown-singles : singlesOf n S r (getD k (4 * i) 0) d ≡ grown n S m t k i r

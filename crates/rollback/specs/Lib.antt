@@ -1,3 +1,2 @@
 -- What a round of rollback takes and leaves, and its turns by the lists.
-pub mod Rolling
-pub mod Turning
+pub mod Inner

@@ -6,9 +6,9 @@ ghost use mathlib.Core.Bool.{_&&_, cond};
 ghost use Prim.Native.Nat.{_+_, _*_, _<_, _≤_};
 ghost use lib.ListN.{length};
 ghost use Rattle.lattice.specs.Sites.{SidesFit, sites};
-ghost use Rattle.vertices.specs.Appending.{Space};
-ghost use Rattle.rollback.specs.Rolling.{Ready, Rolled};
-ghost use Rattle.rollback.specs.Turning.{heldAt, heldMask, grown, Placed, Replaced, Turnable, Turned};
+ghost use Rattle.site_vertices.specs.Inner.Appending.{Space};
+ghost use Rattle.rollback.specs.Inner.Rolling.{Ready, Rolled};
+ghost use Rattle.rollback.specs.Inner.Turning.{heldAt, heldMask, grown, Placed, Replaced, Turnable, Turned};
 
 // The digit of an edge, where it is marked and its place in the edge table has the number i.
 fn held_digit(n: Sides, table: &[u32], s: usize, e: usize, marked: bool, i: u32, digit: u16) -> u16
@@ -16,7 +16,7 @@ fn held_digit(n: Sides, table: &[u32], s: usize, e: usize, marked: bool, i: u32,
     ensures { λ r. ⌜ r ≡ cond (marked && heldAt n (now (table .entry)) s i e) digit 0 ⌝ }
 {
     if marked {
-        let k = vertices::edge_place(n, s, e);
+        let k = site_vertices::edge_place(n, s, e);
         if table[k] == i {
             return digit;
         }
@@ -59,7 +59,7 @@ fn roll_vertex(
 {
     let s = book[4 * i] as usize;
     let held = held_mask(n, table, s, masks[s], i as u32);
-    let after = vertices::draw_singles(
+    let after = site_vertices::draw_singles(
         frame,
         n,
         samples,

@@ -19,11 +19,11 @@ use denote.Struct.Declared.{Declared}
 use denote.Struct.Laws as LL
 use denote.Struct.Rest.{all-own, own-open, own-shut}
 use denote.Struct.Values.{Values}
-use Rattle.view.specs.declared.SampleView.{SampleView}
+use Rattle.sample_view.specs.declared.SampleView.{SampleView}
 use Rattle.lattice.proofs.Sides as N
 use Rattle.lattice.proofs.Sides.Laws as N′
-use Rattle.view.proofs.SampleView as T
-use Rattle.view.proofs.SampleView.Laws as T′
+use Rattle.sample_view.proofs.SampleView as T
+use Rattle.sample_view.proofs.SampleView.Laws as T′
 
 -- the view's type, over a signature's lifetimes
 abbrev pub B : Lfts 1 → RattleType

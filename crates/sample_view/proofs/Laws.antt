@@ -10,17 +10,17 @@ use lib.ListN.{length, getD}
 use lib.Ieee.{Float, nan}
 use denote.Ref.{RefT}
 use Rattle.tables.specs.Edges.{reverse}
-use Rattle.sides.specs.declared.Sample.{Sample}
-use Rattle.sides.specs.declared.Sample.the-variants.{Missing, Value}
+use Rattle.samples.specs.declared.Sample.{Sample}
+use Rattle.samples.specs.declared.Sample.the-variants.{Missing, Value}
 use Rattle.lattice.specs.declared.Sides.{Sides}
 use Rattle.lattice.specs.declared.OtherEnd.the-variants as end
 use Rattle.lattice.specs.Sites.{SidesFit, sidesOk, sites, inBox, siteOf}
 use Rattle.lattice.specs.Across.{acrossOf}
 use Rattle.lattice.proofs.Sites.{fit-sides, site-lt}
 use Rattle.lattice.proofs.OtherEnds.{box-in, across-joined, across-back}
-use Rattle.view.specs.declared.SampleView.{SampleView}
-use Rattle.view.specs.View.{entryAt, valueAt, valueUvw, entryBy, valueAcross}
-use Rattle.view.proofs.Lookups.{entry-there, at-there, across-is}
+use Rattle.sample_view.specs.declared.SampleView.{SampleView}
+use Rattle.sample_view.specs.View.{entryAt, valueAt, valueUvw, entryBy, valueAcross}
+use Rattle.sample_view.proofs.Lookups.{entry-there, at-there, across-is}
 
 -- ---- any two answers that keep a promise are equal
 

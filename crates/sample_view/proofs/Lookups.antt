@@ -7,14 +7,14 @@ use native.Mathlib.Omega.{arith}
 use borrow.Author.Tests.{lt-ltb, le-ltb}
 use lib.ListN.{length, getD}
 use lib.Ieee.{Float, nan}
-use Rattle.sides.specs.declared.Sample.{Sample}
-use Rattle.sides.specs.declared.Sample.the-variants.{Missing, Value}
+use Rattle.samples.specs.declared.Sample.{Sample}
+use Rattle.samples.specs.declared.Sample.the-variants.{Missing, Value}
 use Rattle.lattice.specs.declared.Sides.{Sides}
 use Rattle.lattice.specs.declared.OtherEnd.{OtherEnd}
 use Rattle.lattice.specs.declared.OtherEnd.the-variants as end
 use Rattle.lattice.specs.Sites.{sidesOk, sites, inBox, siteOf}
 use Rattle.lattice.specs.Across.{acrossOf}
-use Rattle.view.specs.View.{entryAt, valueAt, valueUvw, entryBy, valueAcross}
+use Rattle.sample_view.specs.View.{entryAt, valueAt, valueUvw, entryBy, valueAcross}
 
 pub entry-there : (S : List Float) (s : ℕ) → s < length S → Value (getD S s nan) ≡ entryAt S s
 unfolding entryAt

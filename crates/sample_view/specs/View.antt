@@ -6,8 +6,8 @@ use Prim.Native.Nat.{ℕ}
 use lib.Dec.{ltb}
 use lib.ListN.{length, getD}
 use lib.Ieee.{Float, nan}
-use Rattle.sides.specs.declared.Sample.{Sample}
-use Rattle.sides.specs.declared.Sample.the-variants.{Missing, Value}
+use Rattle.samples.specs.declared.Sample.{Sample}
+use Rattle.samples.specs.declared.Sample.the-variants.{Missing, Value}
 use Rattle.lattice.specs.declared.Sides.{Sides}
 use Rattle.lattice.specs.declared.OtherEnd.{OtherEnd}
 use Rattle.lattice.specs.declared.OtherEnd.the-variants as end

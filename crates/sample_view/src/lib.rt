@@ -3,9 +3,9 @@
 use lattice::OtherEnd;
 use lattice::Sides;
 use lattice::Uvw;
-use sides::Sample;
+use samples::Sample;
 ghost use mathlib.Core.Path.{_≡_};
-ghost use Rattle.view.specs.View.{entryAt, entryBy, valueAt, valueUvw, valueAcross};
+ghost use Rattle.sample_view.specs.View.{entryAt, entryBy, valueAt, valueUvw, valueAcross};
 
 // The samples that the caller lends, and the sides of their box.
 pub struct SampleView<'a> {

@@ -1,10 +1,10 @@
 -- Which side a value is on, and where the surface crosses an edge. The threshold h is a parameter throughout. Assumes nothing.
 use mathlib.Core.Bool.{Bool, true, false, Bool·beq, cond}
 use lib.Ieee.{Float, nan, inf, fin, binary64, lt, neg, sub, div, ofBits}
-use Rattle.sides.specs.declared.Sample.{Sample}
-use Rattle.sides.specs.declared.Sample.the-variants.{Missing, Value}
-use Rattle.sides.specs.declared.Crossing.{Crossing}
-use Rattle.sides.specs.declared.Crossing.the-variants.{SameSide, At}
+use Rattle.samples.specs.declared.Sample.{Sample}
+use Rattle.samples.specs.declared.Sample.the-variants.{Missing, Value}
+use Rattle.samples.specs.declared.Crossing.{Crossing}
+use Rattle.samples.specs.declared.Crossing.the-variants.{SameSide, At}
 
 -- the base threshold, the f64 nearest to 1.0e-9
 abbrev pub base : Float

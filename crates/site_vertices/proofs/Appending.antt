@@ -26,12 +26,12 @@ use Rattle.stages.specs.Boxes.{Box, owned}
 use Rattle.stages.specs.Vertices.{Vertex, fresh, held, keys}
 use Rattle.stages.specs.Meshes.{bookOf, numbers, positionsOf}
 use Rattle.stages.specs.Samples.{edgesOf, placeOf, pointBy, pointsOf, positionAt}
-use Rattle.stages.specs.Steps.{number, paint, paintAll}
+use Rattle.stages.specs.Inner.Steps.{number, paint, paintAll}
 use Rattle.stages.proofs.Book.{book-append, book-length, positions-append, positions-length}
-use Rattle.vertices.specs.Drawing.{join, claim, joinEdge, claimEdge}
-use Rattle.vertices.proofs.Points.{isAt, point-at}
-use Rattle.vertices.proofs.Drawing.{rest-set, rest-half}
-use Rattle.vertices.specs.Appending.{Appended, Space, paintFrom, pointedOf, single, singlesOf}
+use Rattle.site_vertices.specs.Inner.Drawing.{join, claim, joinEdge, claimEdge}
+use Rattle.site_vertices.proofs.Points.{isAt, point-at}
+use Rattle.site_vertices.proofs.Drawing.{rest-set, rest-half}
+use Rattle.site_vertices.specs.Inner.Appending.{Appended, Space, paintFrom, pointedOf, single, singlesOf}
 
 -- ---- lists of vertices
 

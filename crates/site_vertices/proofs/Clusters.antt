@@ -9,7 +9,7 @@ use Rattle.laws.specs.Digits.{isSet}
 use Rattle.laws.specs.Ranges.{fold, each}
 use Rattle.laws.specs.Lists.{keep}
 use Rattle.laws.proofs.Lists.{keep-append, map-append}
-use Rattle.sides.specs.Sides.{finite}
+use Rattle.samples.specs.Sides.{finite}
 use Rattle.lattice.specs.declared.Sides.{Sides}
 use Rattle.lattice.specs.declared.OtherEnd.{OtherEnd}
 use Rattle.lattice.specs.declared.OtherEnd.the-variants as end
@@ -25,8 +25,8 @@ use Rattle.points.specs.Means.{none, more, gather, sumOf}
 use Rattle.stages.specs.Boxes.{owned}
 use Rattle.stages.specs.Meshes.{numbers}
 use Rattle.stages.specs.Samples.{edgesOf, pointBy, placeOf, listed, pointsOf}
-use Rattle.stages.specs.Steps.{paint}
-use Rattle.vertices.specs.Drawing.{join, claim, joinEdge, claimEdge, joinTo, claimTo}
+use Rattle.stages.specs.Inner.Steps.{paint}
+use Rattle.site_vertices.specs.Inner.Drawing.{join, claim, joinEdge, claimEdge, joinTo, claimTo}
 
 gather-append : (q : Sum) (ps rs : List Point) → gather q (ps ++ rs) ≡ gather (gather q ps) rs
 gather-append q [] rs = refl

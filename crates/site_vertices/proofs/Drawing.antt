@@ -22,7 +22,7 @@ use Rattle.points.specs.Means.{none, more}
 use Rattle.stages.specs.Boxes.{owned}
 use Rattle.stages.specs.Samples.{placeOf}
 use Rattle.stages.proofs.SampleMarks.{owned-low, owned-high}
-use Rattle.vertices.specs.Drawing.{join, claim, joinEdge, claimEdge, joinTo, claimTo}
+use Rattle.site_vertices.specs.Inner.Drawing.{join, claim, joinEdge, claimEdge, joinTo, claimTo}
 
 -- an edge's place is in the table
 pub place-low : (n : Sides) (s e : ℕ) → s < sites n → e < 14 → owned n s e < 7 * sites n

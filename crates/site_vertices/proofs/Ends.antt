@@ -13,7 +13,7 @@ use Rattle.lattice.specs.Sites.{SidesFit, sites, InBox}
 use Rattle.lattice.specs.Across.{acrossOf}
 use Rattle.lattice.proofs.Sites.{sites-most}
 use Rattle.lattice.proofs.OtherEnds.{across-joined}
-use Rattle.marks.specs.Loops.{Sampled}
+use Rattle.marks.specs.Inner.Loops.{Sampled}
 
 -- an edge of the site s leads to the site t, and both have samples
 pub record Reached (n : Sides) (S : List Float) (s e t : ℕ) : Type 0 where

@@ -6,7 +6,7 @@ use Prim.Native.Nat.{ℕ, suc}
 use lib.ListN.{length}
 use lib.Ieee.{Float}
 use Rattle.laws.specs.Lists.{keep}
-use Rattle.sides.specs.Sides.{finite}
+use Rattle.samples.specs.Sides.{finite}
 use Rattle.lattice.specs.declared.Sides.{Sides}
 use Rattle.lattice.specs.declared.OtherEnd.{OtherEnd}
 use Rattle.lattice.specs.declared.OtherEnd.the-variants as end
@@ -18,7 +18,7 @@ use Rattle.points.specs.declared.EdgePoint.{EdgePoint}
 use Rattle.points.specs.declared.EdgePoint.the-variants as on
 use Rattle.points.specs.EdgePoints.{edgePoint}
 use Rattle.stages.specs.Samples.{listed, placeOf, pointBy, pointsOf}
-use Rattle.vertices.specs.Appending.{pointedOf}
+use Rattle.site_vertices.specs.Inner.Appending.{pointedOf}
 
 unfoldable pub isAt : EdgePoint → Bool
 isAt on.Missing = false

@@ -1,3 +1,2 @@
 -- What the loops of one site do, edge by edge, and what it is to append vertices.
-pub mod Drawing
-pub mod Appending
+pub mod Inner

@@ -5,7 +5,7 @@ use points::EdgePoint;
 use points::Frame;
 use points::Point;
 use points::Sum;
-use sides::Sample;
+use samples::Sample;
 ghost use mathlib.Core.Path.{_≡_};
 ghost use mathlib.Core.List.{[], _∷_};
 ghost use Prim.Native.Nat.{_+_, _*_, _<_, _≤_};
@@ -13,11 +13,11 @@ ghost use lib.ListN.{length};
 ghost use lib.Seq.{sets};
 ghost use Rattle.lattice.specs.Sites.{SidesFit, sites};
 ghost use Rattle.lattice.specs.Across.{acrossOf};
-ghost use Rattle.marks.specs.Loops.{Sampled};
+ghost use Rattle.marks.specs.Inner.Loops.{Sampled};
 ghost use Rattle.stages.specs.Boxes.{reach, owned};
 ghost use Rattle.stages.specs.Samples.{endBy, endsOf, placeOf};
-ghost use Rattle.vertices.specs.Drawing.{joinEdge, claimEdge, joinTo, claimTo, Drawable};
-ghost use Rattle.vertices.specs.Appending.{Appended, Space, single, singlesOf};
+ghost use Rattle.site_vertices.specs.Inner.Drawing.{joinEdge, claimEdge, joinTo, claimTo, Drawable};
+ghost use Rattle.site_vertices.specs.Inner.Appending.{Appended, Space, single, singlesOf};
 
 // The finite sample at the other end of an edge.
 fn end_at(n: Sides, samples: &[f64], s: usize, e: usize) -> Sample
@@ -27,7 +27,7 @@ fn end_at(n: Sides, samples: &[f64], s: usize, e: usize) -> Sample
     let end = lattice::across(n, s, e);
     match end {
         OtherEnd::Missing => Sample::Missing,
-        OtherEnd::At(t) => sides::finite_sample(samples[t]),
+        OtherEnd::At(t) => samples::finite_sample(samples[t]),
     }
 }
 

@@ -8,7 +8,7 @@ use native.Mathlib.Omega.{arith}
 use lib.Dec.{ltb}
 use borrow.Author.Tests.{ltb-true, lt-ltb}
 use lib.ListN.{length}
-use Rattle.sides.specs.declared.Crossing.the-variants.{SameSide, At}
+use Rattle.samples.specs.declared.Crossing.the-variants.{SameSide, At}
 use Rattle.lattice.specs.declared.Sides.{Sides}
 use lib.Ieee.{Float}
 use Rattle.stages.specs.Vertices.{Vertex}
@@ -20,9 +20,9 @@ use Rattle.stages.proofs.Demand.{crossed-held, sample-sound}
 use Rattle.tables.specs.Edges.{cornerOf, du, dv, dw}
 use Rattle.lattice.specs.Sites.{SidesFit, inBox, siteOf, step}
 use Rattle.lattice.specs.Across.{acrossOf, upward}
-use Rattle.tets.specs.March.{none, sideAt, vertexAt}
-use Rattle.tets.specs.Runs.{crossed}
-use Rattle.sides.specs.Sides.{crosses, crossing, inside, markFraction}
+use Rattle.march.specs.March.{none, sideAt, vertexAt}
+use Rattle.march.specs.Runs.{crossed}
+use Rattle.samples.specs.Sides.{crosses, crossing, inside, markFraction}
 use Rattle.marks.specs.Marks.{crossedBy, isCrossed, sample}
 use Rattle.laws.proofs.Bools.{and-apart}
 use Rattle.lattice.proofs.Sites.{site-lt}

@@ -27,7 +27,7 @@ use Rattle.laws.specs.Ranges.{sum}
 use Rattle.laws.specs.Lists.{total}
 use Rattle.lattice.specs.Sites.{SidesFit, sites}
 use Rattle.lattice.specs.Across.{acrossOf}
-use Rattle.tets.specs.March.{none}
+use Rattle.march.specs.March.{none}
 use Rattle.marks.specs.Marks.{crossedBy, crossedCount, isCrossed}
 use Rattle.laws.proofs.Bools.{and-yes, bit-and-le, bit-le, bool-ext}
 use Rattle.laws.proofs.Ranges.{lt-or}

@@ -14,13 +14,13 @@ use Rattle.tables.specs.Edges.{corners, cornerOf, labelTo, du, dv, dw, areNeigh
 use Rattle.tables.specs.Tets.{tetLabel, tetCorner, tetPairs, tetPair, edgeOf, edgeIn}
 use Rattle.tables.specs.Cases.{mtTable, mtRow}
 use Rattle.tables.specs.FlatHoles.{holeOf, flatHoles, flatHole}
-use Rattle.sides.specs.Sides.{base, inside, finite, whenFinite, markFraction, pointFraction, crossing, isNear}
+use Rattle.samples.specs.Sides.{base, inside, finite, whenFinite, markFraction, pointFraction, crossing, isNear}
 use Rattle.lattice.specs.declared.Sides.{Sides}
 use Rattle.lattice.specs.Sites.{sites, inBox, siteOf, uvwOf, step, ijkOf}
 use Rattle.lattice.specs.Across.{upward, downward, acrossAt, acrossOf}
-use Rattle.tets.specs.Cells.{at, caseOf, tetOk, caseNo, onEach, tetTris, cellTris}
-use Rattle.tets.specs.March.{none, okAt, sideAt, vertexAt, cornersOf, vertexIn, resolved, proper, emitted, siteTris, slab, march}
-use Rattle.tets.specs.Runs.{runs, touches}
+use Rattle.march.specs.Cells.{at, caseOf, tetOk, caseNo, onEach, tetTris, cellTris}
+use Rattle.march.specs.March.{none, okAt, sideAt, vertexAt, cornersOf, vertexIn, resolved, proper, emitted, siteTris, slab, march}
+use Rattle.march.specs.Runs.{runs, touches}
 use Rattle.marks.specs.Marks.{markedBy, marked, maskAt, masksOf, crossedBy, isCrossed, crossedCount}
 use Rattle.topology.specs.Walk.{lowBit, found, remTurn, frTurn, compTurn, walk, first, componentsIn, components}
 use Rattle.topology.specs.Flat.{collapses, collapsesAt, pairsCollapse, rowFlat, isFlat}

@@ -20,7 +20,7 @@ use Rattle.stages.proofs.Lookup.{find-none, find-only, find-some, times
 use Rattle.laws.specs.Bools.{bit}
 use Rattle.laws.specs.Lists.{count, total}
 use Rattle.laws.specs.Couples.{Pair, left}
-use Rattle.tets.specs.March.{none}
+use Rattle.march.specs.March.{none}
 use Rattle.topology.specs.Parts.{low}
 use Rattle.laws.proofs.Lists.{total-at}
 

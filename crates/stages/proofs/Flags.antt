@@ -16,8 +16,8 @@ use Rattle.laws.specs.Ranges.{any}
 use Rattle.laws.specs.Lists.{All, count, keep}
 use Rattle.laws.specs.Couples.{Pair, fromTo}
 use Rattle.laws.specs.Triangles.{Tri, flat, sidesOf}
-use Rattle.tets.specs.March.{proper}
-use Rattle.tets.specs.Runs.{runs, touches}
+use Rattle.march.specs.March.{proper}
+use Rattle.march.specs.Runs.{runs, touches}
 use Rattle.pairs.specs.Sides.{directed, joins, next, pairCount}
 use Rattle.laws.proofs.Bools.{and-apart, bool-ext, bools-at}
 use Rattle.laws.proofs.Ranges.{any-one, any-same, any-some}

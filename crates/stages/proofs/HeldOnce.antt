@@ -24,7 +24,7 @@ use Rattle.laws.specs.Lists.{count, joined, keep, total}
 use Rattle.tables.specs.Edges.{reverse}
 use Rattle.lattice.specs.Sites.{SidesFit, sites}
 use Rattle.lattice.specs.Across.{acrossOf}
-use Rattle.sides.specs.Sides.{finite}
+use Rattle.samples.specs.Sides.{finite}
 use Rattle.marks.specs.Marks.{isCrossed, marked, markedBy, sample}
 use Rattle.laws.proofs.Bools.{bit-and-part}
 use Rattle.laws.proofs.Ranges.{lt-or}

@@ -12,9 +12,9 @@ use Rattle.stages.specs.Stages.{Finer, Sound, Stage, again, first, parte
 use Rattle.stages.proofs.Room.{stage-room}
 use Rattle.stages.proofs.Lookup.{stage-times, times}
 use Rattle.stages.proofs.Finer.{place-step, roll-step, step-finer}
-use Rattle.tets.specs.Finer.{byEdge, renamed}
-use Rattle.tets.proofs.Finer.{finer-longer}
-use Rattle.tets.specs.March.{none}
+use Rattle.march.specs.Finer.{byEdge, renamed}
+use Rattle.march.proofs.Finer.{finer-longer}
+use Rattle.march.specs.March.{none}
 
 -- THE MESH NEVER SHRINKS
 pub mesh-longer : (b : Box) (vs ws : List Vertex) → Finer (find b 0 ws) (find b 0 vs) → length (meshOf b vs) ≤ length (meshOf b ws)

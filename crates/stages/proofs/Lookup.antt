@@ -14,7 +14,7 @@ use Rattle.stages.specs.Meshes.{find, holds}
 use Rattle.stages.specs.Stages.{Held, Named, Stage, holders}
 use Rattle.stages.proofs.Stages.{held-sum, keysOf, stage-held}
 use Rattle.laws.specs.Lists.{count, total}
-use Rattle.tets.specs.March.{none}
+use Rattle.march.specs.March.{none}
 use Rattle.topology.specs.Parts.{low}
 use Rattle.laws.proofs.Lists.{count-le, total-at}
 

@@ -7,10 +7,10 @@ use native.Mathlib.Omega.{arith}
 use lib.ListN.{getD}
 use lib.Ieee.{Float}
 use Rattle.lattice.specs.declared.Sides.{Sides}
-use Rattle.tets.specs.March.{march}
-use Rattle.tets.specs.Lists as lists
-use Rattle.tets.specs.Finer.{byEdge, renamed}
-use Rattle.tets.proofs.Finer.{march-same}
+use Rattle.march.specs.March.{march}
+use Rattle.march.specs.Lists as lists
+use Rattle.march.specs.Finer.{byEdge, renamed}
+use Rattle.march.proofs.Finer.{march-same}
 use Rattle.stages.specs.Vertices.{Vertex}
 use Rattle.stages.specs.Meshes.{fieldOf, find, meshOf, tableOf}
 use Rattle.stages.specs.Samples.{boxOf}

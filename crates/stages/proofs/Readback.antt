@@ -13,14 +13,14 @@ use Rattle.stages.specs.Vertices.{Vertex, apart, candidates, filled, fre
 use Rattle.stages.specs.Meshes.{find, holds, numbers}
 use Rattle.stages.specs.Rounds.{isIn, retired}
 use Rattle.stages.specs.Stages.{Named, Stage}
-use Rattle.stages.specs.Clustered.{Ascending, Clustered, Proper}
+use Rattle.stages.specs.Inner.Clustered.{Ascending, Clustered, Proper}
 use Rattle.stages.proofs.Lookup.{entry-named, find-only, times}
 use Rattle.stages.proofs.Members.{stage-all}
 use Rattle.laws.specs.Bools.{bit}
 use Rattle.laws.specs.Ranges.{each}
 use Rattle.laws.specs.Lists.{All, count, joined, keep}
 use Rattle.lattice.specs.Sites.{sites}
-use Rattle.tets.specs.March.{none}
+use Rattle.march.specs.March.{none}
 use Rattle.laws.proofs.Bools.{and-apart, and-yes, bool-ext}
 use Rattle.laws.proofs.Ranges.{each-all}
 use Rattle.laws.proofs.Lists.{count-append, count-keep, count-key, keep-append, keep-both, keep-same}

@@ -12,8 +12,8 @@ use Rattle.stages.specs.Boxes.{Box, owned}
 use Rattle.stages.specs.Vertices.{Vertex, apart, fresh, held, keys, nobody}
 use Rattle.stages.specs.Meshes.{find, numbers, tableOf}
 use Rattle.stages.specs.Rounds.{retired, rolled}
-use Rattle.stages.specs.Steps.{number, renumber, renumberTo, rollTurn}
-use Rattle.stages.specs.Clustered.{Clustered, Proper}
+use Rattle.stages.specs.Inner.Steps.{number, renumber, renumberTo, rollTurn}
+use Rattle.stages.specs.Inner.Clustered.{Clustered, Proper}
 use Rattle.stages.proofs.Lookup.{times}
 use Rattle.stages.proofs.Table.{table-at}
 use Rattle.stages.proofs.Turns.{turn-table}
@@ -21,7 +21,7 @@ use Rattle.stages.proofs.Readback.{held-reads}
 use Rattle.laws.specs.Bools.{bit}
 use Rattle.laws.specs.Ranges.{each, fold}
 use Rattle.laws.specs.Lists.{count, keep}
-use Rattle.tets.specs.March.{none}
+use Rattle.march.specs.March.{none}
 use Rattle.laws.proofs.Lists.{count-append, keep-append, keep-same, map-append}
 
 number-other : (n : ℕ) (ks t : List ℕ) (j : ℕ) → count (eqb j) ks ≡ 0 → getD (number n ks t) j none ≡ getD t j none

@@ -9,13 +9,13 @@ use lib.Dec.{eqb}
 use borrow.Author.Tests.{eq-eqb}
 use lib.ListN.{length, getD, replicate, take}
 use lib.Seq.{take-append-seam}
-use Rattle.sides.specs.declared.Sample.{Sample}
+use Rattle.samples.specs.declared.Sample.{Sample}
 use Rattle.lattice.specs.declared.Sides.{Sides}
 use lib.Ieee.{Float}
 use Rattle.stages.specs.Meshes.{numbers}
 use Rattle.stages.specs.Rounds.{isIn}
 use Rattle.stages.specs.Samples.{clustersAt, edgesOf, endsOf}
-use Rattle.stages.specs.Clustered.{Ascending}
+use Rattle.stages.specs.Inner.Clustered.{Ascending}
 use Rattle.stages.proofs.Readback.{ascending-keep}
 use Rattle.laws.specs.Bools.{bit}
 use Rattle.laws.specs.Ranges.{each}

@@ -11,13 +11,13 @@ use Rattle.lattice.specs.declared.OtherEnd.{OtherEnd}
 use lib.Ieee.{Float}
 use Rattle.stages.specs.Boxes.{owned, reach}
 use Rattle.stages.specs.Samples.{boxOf, pointBy}
-use Rattle.stages.specs.Clustered.{Clustered}
+use Rattle.stages.specs.Inner.Clustered.{Clustered}
 use Rattle.stages.proofs.SampleClusters.{clusters-ascend, clusters-cover, mark-is, mark-label, markAt}
 use Rattle.laws.specs.Bools.{bit}
 use Rattle.tables.specs.Edges.{cornerOf, corners, du, dv, dw}
 use Rattle.lattice.specs.Sites.{SidesFit, sites, uvwOf}
 use Rattle.lattice.specs.Across.{acrossOf}
-use Rattle.sides.specs.Sides.{finite}
+use Rattle.samples.specs.Sides.{finite}
 use Rattle.marks.specs.Marks.{marked, markedBy, sample}
 use Rattle.laws.proofs.Bools.{T-true, bit-T}
 use Rattle.laws.proofs.Ranges.{lt-or}

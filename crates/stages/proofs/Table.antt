@@ -13,7 +13,7 @@ use Rattle.stages.specs.Vertices.{Vertex, apart, fresh, held, keys, nobo
 use Rattle.stages.specs.Meshes.{find, holds, numbers, tableOf}
 use Rattle.stages.specs.Rounds.{isIn, retired}
 use Rattle.stages.specs.Stages.{Sound, Stage}
-use Rattle.stages.specs.Steps.{number, paint, paintAll}
+use Rattle.stages.specs.Inner.Steps.{number, paint, paintAll}
 use Rattle.stages.proofs.Stages.{apart-keys, keysOf, retired-keys}
 use Rattle.stages.proofs.Lookup.{find-none, holds-not, holds-pos, times}
 use Rattle.stages.proofs.Longer.{stage-once}
@@ -21,7 +21,7 @@ use Rattle.laws.specs.Bools.{bit}
 use Rattle.laws.specs.Ranges.{each}
 use Rattle.laws.specs.Lists.{count, total}
 use Rattle.lattice.specs.Sites.{sites}
-use Rattle.tets.specs.March.{none}
+use Rattle.march.specs.March.{none}
 use Rattle.topology.specs.Parts.{low}
 use Rattle.laws.proofs.Ranges.{each-one-at, each-one-length}
 use Rattle.laws.proofs.Lists.{getD-map, map-append, total-append}

@@ -12,7 +12,7 @@ use Rattle.stages.specs.Vertices.{Vertex, apart, keys, nobody}
 use Rattle.stages.specs.Meshes.{tableOf}
 use Rattle.stages.specs.Rounds.{owners, retire, retired, rollback, rolled}
 use Rattle.stages.specs.Stages.{Stage}
-use Rattle.stages.specs.Steps.{number, rollTo, rollTurn}
+use Rattle.stages.specs.Inner.Steps.{number, rollTo, rollTurn}
 use Rattle.stages.proofs.Stages.{apart-keys, keysOf}
 use Rattle.stages.proofs.Lookup.{times}
 use Rattle.stages.proofs.Table.{retire-times, table-roll}

@@ -2,7 +2,7 @@
 use mathlib.Core.Path.{_≡_, refl}
 use mathlib.Core.Bool.{true}
 use mathlib.Core.List.{[], _∷_}
-use Rattle.tets.specs.March.{none}
+use Rattle.march.specs.March.{none}
 use Rattle.stages.proofs.Examples.{Input, words, frame, answerOf, answer, stagesKey}
 
 -- two rounds: 3 x 4 x 3, 52 vertices, 74 triangles, 2 split, rounds done 2

@@ -6,5 +6,4 @@ pub mod Splits
 pub mod Rounds
 pub mod Samples
 pub mod Stages
-pub mod Steps
-pub mod Clustered
+pub mod Inner

@@ -8,7 +8,7 @@ use Rattle.laws.specs.Ranges.{each}
 use Rattle.laws.specs.Lists.{count}
 use Rattle.laws.specs.Triangles.{Tri}
 use Rattle.lattice.specs.Sites.{sites}
-use Rattle.tets.specs.March.{Field, none, march}
+use Rattle.march.specs.March.{Field, none, march}
 use Rattle.stages.specs.Boxes.{Box}
 use Rattle.stages.specs.Vertices.{Vertex, held, keys}
 

@@ -1,23 +1,25 @@
 -- The box of a build, made of its samples: marks, clusters and points. Assumes nothing.
 use mathlib.Core.Path.{_≡_}
-use mathlib.Core.Bool.{Bool, true, false, _&&_}
+use mathlib.Core.Bool.{Bool, true, false, _&&_, not}
 use mathlib.Core.List.{List, [], _∷_, _++_, map}
 use Prim.Native.Nat.{ℕ, _/_, _%_, _<_}
+use lib.Dec.{eqb}
 use lib.ListN.{take}
 use lib.Ieee.{Float}
-use Rattle.laws.specs.Ranges.{each}
+use Rattle.laws.specs.Bools.{bit}
+use Rattle.laws.specs.Ranges.{each, sum}
 use Rattle.laws.specs.Lists.{keep}
 use Rattle.laws.specs.Digits.{isSet}
-use Rattle.sides.specs.declared.Sample.{Sample}
-use Rattle.sides.specs.declared.Sample.the-variants as known
-use Rattle.sides.specs.Sides.{inside, finite, whenFinite}
+use Rattle.samples.specs.declared.Sample.{Sample}
+use Rattle.samples.specs.declared.Sample.the-variants as known
+use Rattle.samples.specs.Sides.{inside, finite, whenFinite}
 use Rattle.lattice.specs.declared.Sides.{Sides}
 use Rattle.lattice.specs.declared.OtherEnd.{OtherEnd}
 use Rattle.lattice.specs.declared.OtherEnd.the-variants as end
 use Rattle.lattice.specs.Sites.{sites, uvwOf, ijkOf}
 use Rattle.lattice.specs.Across.{acrossOf}
 use Rattle.marks.specs.Marks.{sample, maskAt, isCrossed}
-use Rattle.topology.specs.Topology.{topologyOf}
+use Rattle.topology.specs.Topology.{topologyOf, caseNumber}
 use Rattle.points.specs.declared.Frame.{Frame}
 use Rattle.points.specs.declared.Point.{Point}
 use Rattle.points.specs.declared.EdgePoint.{EdgePoint}
@@ -44,6 +46,18 @@ unfoldable pub clustersAt : Sides → List Float → Float → Bool → ℕ → 
 clustersAt n S h cluster s =
     let c = topologyOf (maskAt n S h s) cluster (endsOf n S s) h .clusters in
     map edgesOf (take (c .count) (c .masks))
+
+-- ---- the cases of the sites
+
+-- the site has marked edges, and its case has the number j
+unfoldable pub isCase : Sides → List Float → Float → Bool → ℕ → ℕ → Bool
+isCase n S h cluster j s = not (eqb (maskAt n S h s) 0) && eqb (caseNumber (topologyOf (maskAt n S h s) cluster (endsOf n S s) h .case)) j
+
+-- how many of the first k sites
+unfoldable pub caseCount : Sides → List Float → Float → Bool → ℕ → ℕ → ℕ
+caseCount n S h cluster k j = sum k (λ s. bit (isCase n S h cluster j s))
+
+-- ---- the box
 
 -- an edge has a point where both its samples are finite
 unfoldable pub pointBy : List Float → ℕ → OtherEnd → Bool

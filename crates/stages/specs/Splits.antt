@@ -7,7 +7,7 @@ use lib.Dec.{eqb, ltb}
 use Rattle.laws.specs.Lists.{keep, count}
 use Rattle.laws.specs.Couples.{Pair}
 use Rattle.laws.specs.Triangles.{Tri, sidesOf}
-use Rattle.tets.specs.Runs.{touches}
+use Rattle.march.specs.Runs.{touches}
 use Rattle.stages.specs.Boxes.{Box}
 use Rattle.stages.specs.Vertices.{Vertex, several, apart, candidates}
 use Rattle.stages.specs.Meshes.{meshOf}

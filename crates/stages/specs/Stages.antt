@@ -7,7 +7,7 @@ use lib.Dec.{eqb}
 use lib.ListN.{length, getD}
 use Rattle.laws.specs.Lists.{count, joined}
 use Rattle.laws.specs.Couples.{Pair}
-use Rattle.tets.specs.March.{none}
+use Rattle.march.specs.March.{none}
 use Rattle.stages.specs.Boxes.{Box}
 use Rattle.stages.specs.Vertices.{Vertex, nobody, keys, candidates}
 use Rattle.stages.specs.Meshes.{holds, find}

@@ -15,8 +15,8 @@ use Rattle.laws.proofs.Lists.{all-map, total-append}
 use Rattle.laws.proofs.Ranges.{lt-or, eq-or, each-first, each-same, each-all, any-same}
 use Rattle.laws.proofs.Digits.{digit-or-not, digit-pow-same, digit-pow-other, digit-high, low-pow}
 use Rattle.tables.specs.FlatHoles.{flatHole}
-use Rattle.sides.specs.declared.Sample.{Sample}
-use Rattle.sides.specs.declared.Sample.the-variants.{Missing}
+use Rattle.samples.specs.declared.Sample.{Sample}
+use Rattle.samples.specs.declared.Sample.the-variants.{Missing}
 use Rattle.topology.specs.declared.Components.{Components}
 use Rattle.topology.specs.declared.TopologyCase.{TopologyCase}
 use Rattle.topology.specs.declared.TopologyCase.the-variants.{ClosedSurface, MultiHole, FlatHole, MultiSurface, SimpleSurface, DoNotCluster}

@@ -21,8 +21,8 @@ use Rattle.tables.specs.declared.FlatHole.{FlatHole}
 use Rattle.tables.specs.Edges.{areNeighbours}
 use Rattle.tables.specs.FlatHoles.{holeOf, flatHoles, flatHole}
 use Rattle.tables.proofs.FlatHoles.{flat-36}
-use Rattle.sides.specs.declared.Sample.{Sample}
-use Rattle.sides.specs.declared.Sample.the-variants.{Missing, Value}
+use Rattle.samples.specs.declared.Sample.{Sample}
+use Rattle.samples.specs.declared.Sample.the-variants.{Missing, Value}
 use Rattle.topology.specs.Walk.{lowBit}
 use Rattle.topology.specs.Flat.{twoEdges, collapses, collapsesAt, pairsCollapse, rowFlat, isFlat, Collapse}
 use Rattle.topology.proofs.Rows.{off, on, off-second, on-second, by-four}

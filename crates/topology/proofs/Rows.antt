@@ -16,8 +16,8 @@ use Rattle.laws.proofs.Ranges.{all-at, any-more, any-some}
 use Rattle.tables.specs.declared.FlatHole.{FlatHole}
 use Rattle.tables.specs.Edges.{areNeighbours}
 use Rattle.tables.specs.FlatHoles.{holeOf, flatHoles, flatHole}
-use Rattle.sides.specs.declared.Sample.{Sample}
-use Rattle.sides.specs.declared.Sample.the-variants.{Missing}
+use Rattle.samples.specs.declared.Sample.{Sample}
+use Rattle.samples.specs.declared.Sample.the-variants.{Missing}
 use Rattle.topology.specs.declared.TwoEdges.{TwoEdges}
 use Rattle.topology.specs.Walk.{lowBit}
 use Rattle.topology.specs.Flat.{twoEdges, collapsesAt, pairsCollapse, rowFlat, isFlat}

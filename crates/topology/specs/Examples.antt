@@ -11,9 +11,9 @@ use Rattle.laws.specs.Ranges.{each, any}
 use Rattle.laws.specs.Digits.{digit, isSet, mask}
 use Rattle.tables.specs.Edges.{areNeighbours, neighbourMask}
 use Rattle.tables.specs.FlatHoles.{holeOf, flatHoles, flatHole}
-use Rattle.sides.specs.declared.Sample.{Sample}
-use Rattle.sides.specs.declared.Sample.the-variants.{Missing, Value}
-use Rattle.sides.specs.Sides.{base, inside, markFraction, crossing, isNear}
+use Rattle.samples.specs.declared.Sample.{Sample}
+use Rattle.samples.specs.declared.Sample.the-variants.{Missing, Value}
+use Rattle.samples.specs.Sides.{base, inside, markFraction, crossing, isNear}
 use Rattle.topology.specs.declared.TopologyCase.the-variants.{ClosedSurface, MultiHole, FlatHole, MultiSurface, SimpleSurface}
 use Rattle.topology.specs.declared.TopologyResult.{TopologyResult}
 use Rattle.topology.specs.Walk.{lowBit, found, remTurn, frTurn, compTurn, walk, first, componentsIn, components}

@@ -14,9 +14,9 @@ use Rattle.laws.specs.Digits.{digit}
 use Rattle.tables.specs.Edges.{areNeighbours}
 use Rattle.tables.specs.declared.FlatHole.{FlatHole}
 use Rattle.tables.specs.FlatHoles.{flatHole}
-use Rattle.sides.specs.declared.Sample.{Sample}
-use Rattle.sides.specs.declared.Sample.the-variants.{Missing, Value}
-use Rattle.sides.specs.Sides.{isNear}
+use Rattle.samples.specs.declared.Sample.{Sample}
+use Rattle.samples.specs.declared.Sample.the-variants.{Missing, Value}
+use Rattle.samples.specs.Sides.{isNear}
 use Rattle.topology.specs.declared.TwoEdges.{TwoEdges}
 use Rattle.topology.specs.Parts.{low}
 use Rattle.topology.specs.Walk.{lowBit}

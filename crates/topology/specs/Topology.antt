@@ -9,7 +9,7 @@ use lib.Bits.{bitAnd}
 use Rattle.laws.specs.Ranges.{each}
 use Rattle.laws.specs.Filling.{padded}
 use Rattle.laws.specs.Digits.{isSet}
-use Rattle.sides.specs.declared.Sample.{Sample}
+use Rattle.samples.specs.declared.Sample.{Sample}
 use Rattle.topology.specs.declared.Clusters.{Clusters}
 use Rattle.topology.specs.declared.TopologyCase.{TopologyCase}
 use Rattle.topology.specs.declared.TopologyCase.the-variants.{ClosedSurface, MultiHole, FlatHole, MultiSurface, SimpleSurface, DoNotCluster}

@@ -4,7 +4,7 @@ ghost use Rattle.topology.specs.Walk.{lowBit, componentsOf};
 ghost use Rattle.topology.specs.Flat.{twoEdges, collapses, isFlat};
 ghost use Rattle.topology.specs.Topology.{singles, clustersOf, topologyOf, caseNumber};
 ghost use mathlib.Core.List.{[], _∷_};
-use sides::Sample;
+use samples::Sample;
 use tables::ALL14_MASK;
 use tables::FLAT_HOLES;
 
@@ -101,8 +101,8 @@ fn two_edge_indices(mask: u16) -> TwoEdges
 fn would_collapse(a: f64, b: f64, c: f64, d: f64, h: f64) -> bool
     ensures { λ r. ⌜ r ≡ collapses a b c d h ⌝ }
 {
-    let near_a = sides::is_near(a, d, h) && sides::is_near(a, c, h);
-    let near_b = sides::is_near(b, d, h) && sides::is_near(b, c, h);
+    let near_a = samples::is_near(a, d, h) && samples::is_near(a, c, h);
+    let near_b = samples::is_near(b, d, h) && samples::is_near(b, c, h);
     near_a || near_b
 }
 

@@ -1,6 +1,6 @@
 // Prints the case and the clusters of every 61st mask, with samples at the ends that a fixed generator makes.
 // The generator goes through all masks and ends in order, so that the lines are those of a run over all masks.
-use sides::Sample;
+use samples::Sample;
 
 const SEED: u64 = 1;
 
@@ -22,24 +22,24 @@ fn next(x: u64) -> u64 {
 // What the generator's top five bits stand for; a value that is not finite counts as missing.
 fn sample(top: u64) -> Sample {
     match top {
-        0 | 6 | 14 | 27 => sides::finite_sample(1.0),
-        1 | 7 | 15 => sides::finite_sample(-1.0),
-        2 | 8 | 16 => sides::finite_sample(3.0),
-        3 | 9 | 17 => sides::finite_sample(-3.0),
-        4 | 10 | 18 => sides::finite_sample(0.5),
-        5 | 11 | 19 => sides::finite_sample(-0.5),
-        12 => sides::finite_sample(2.0),
-        13 => sides::finite_sample(-2.0),
-        20 => sides::finite_sample(0.0),
-        21 => sides::finite_sample(-0.0),
-        22 => sides::finite_sample(-1.0e-9),
-        23 => sides::finite_sample(-1.0000000000000003e-9),
-        24 => sides::finite_sample(5.0e-324),
-        25 => sides::finite_sample(1.0e308),
-        26 => sides::finite_sample(-1.0e308),
-        28 => sides::finite_sample(0.0 / 0.0),
-        29 => sides::finite_sample(1.0 / 0.0),
-        30 => sides::finite_sample(-1.0 / 0.0),
+        0 | 6 | 14 | 27 => samples::finite_sample(1.0),
+        1 | 7 | 15 => samples::finite_sample(-1.0),
+        2 | 8 | 16 => samples::finite_sample(3.0),
+        3 | 9 | 17 => samples::finite_sample(-3.0),
+        4 | 10 | 18 => samples::finite_sample(0.5),
+        5 | 11 | 19 => samples::finite_sample(-0.5),
+        12 => samples::finite_sample(2.0),
+        13 => samples::finite_sample(-2.0),
+        20 => samples::finite_sample(0.0),
+        21 => samples::finite_sample(-0.0),
+        22 => samples::finite_sample(-1.0e-9),
+        23 => samples::finite_sample(-1.0000000000000003e-9),
+        24 => samples::finite_sample(5.0e-324),
+        25 => samples::finite_sample(1.0e308),
+        26 => samples::finite_sample(-1.0e308),
+        28 => samples::finite_sample(0.0 / 0.0),
+        29 => samples::finite_sample(1.0 / 0.0),
+        30 => samples::finite_sample(-1.0 / 0.0),
         _ => Sample::Missing,
     }
 }
@@ -77,7 +77,7 @@ fn show_clusters(count: usize, masks: [u16; 14]) {
 }
 
 fn show(mask: u16, ends: [Sample; 14]) {
-    let r = topology::test_topology(mask, true, ends, sides::threshold());
+    let r = topology::test_topology(mask, true, ends, samples::threshold());
     let case = r.case;
     let clusters = r.clusters;
     let count = clusters.count;

@@ -10,13 +10,13 @@ use Rattle.laws.specs.Ranges.{each, sum}
 use Rattle.lattice.specs.declared.Sides.{Sides}
 use Rattle.lattice.specs.Sites.{sites}
 use Rattle.points.specs.declared.Frame.{Frame}
-use Rattle.tets.specs.March.{none}
+use Rattle.march.specs.March.{none}
 use Rattle.stages.specs.Vertices.{candidates, siteVertices}
-use Rattle.vertices.proofs.Appending.{appended-unique}
-use Rattle.stages.specs.Samples.{boxOf}
-use Rattle.passes.specs.declared.Walk.{Walk}
-use Rattle.passes.specs.Passing.{Ahead, Drawn, Passed, caseCount, casesTo, start}
-use Rattle.passes.proofs.Passing.{Passing, ahead-turn, passing-done, passing-start, passing-turn}
+use Rattle.site_vertices.proofs.Appending.{appended-unique}
+use Rattle.stages.specs.Samples.{boxOf, caseCount}
+use Rattle.vertex_pass.specs.declared.Walk.{Walk}
+use Rattle.vertex_pass.specs.Inner.Passing.{Ahead, Drawn, Passed, casesTo, start}
+use Rattle.vertex_pass.proofs.Passing.{Passing, ahead-turn, passing-done, passing-start, passing-turn}
 
 module _ (f : Frame) (n : Sides) (S : List Float) (h : Float) (cluster : Bool) (q : ℕ → Bool) (p₀ : List Float) (b₀ : List ℕ) where
   pub record Walking (k : ℕ) (c : Walk) (t : List ℕ) (p : List Float) (b : List ℕ) : Type 0 where

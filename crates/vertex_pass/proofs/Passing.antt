@@ -15,9 +15,9 @@ use Rattle.lattice.specs.declared.Sides.{Sides}
 use Rattle.points.specs.declared.Frame.{Frame}
 use Rattle.stages.specs.Vertices.{Vertex, several, apart}
 use Rattle.stages.specs.Splits.{endOf, place, splitCount, splits}
-use Rattle.vertices.proofs.Appending.{appended-none, appended-more, appended-same, appended-lengths, each-longer}
-use Rattle.passes.specs.declared.Pass.{Pass}
-use Rattle.passes.specs.Passing.{placeBy, splitBy, flagOf, Passed, Ahead}
+use Rattle.site_vertices.proofs.Appending.{appended-none, appended-more, appended-same, appended-lengths, each-longer}
+use Rattle.vertex_pass.specs.declared.Pass.{Pass}
+use Rattle.vertex_pass.specs.Inner.Passing.{placeBy, splitBy, flagOf, Passed, Ahead}
 
 -- ---- flags
 

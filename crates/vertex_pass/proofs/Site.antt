@@ -17,7 +17,7 @@ use Rattle.laws.proofs.Ranges.{each-list, each-none, each-one-at, each-one-leng
 use Rattle.laws.proofs.Sums.{sum-le, sum-turn}
 use Rattle.lattice.specs.declared.Sides.{Sides}
 use Rattle.marks.specs.Marks.{maskAt}
-use Rattle.sides.specs.declared.Sample.{Sample}
+use Rattle.samples.specs.declared.Sample.{Sample}
 use Rattle.topology.specs.declared.TopologyCase.{TopologyCase}
 use Rattle.topology.specs.declared.TopologyCase.the-variants.{ClosedSurface, MultiHole, FlatHole, MultiSurface, SimpleSurface, DoNotCluster}
 use Rattle.topology.specs.declared.TopologyResult.{TopologyResult}
@@ -25,9 +25,9 @@ use Rattle.topology.specs.Topology.{caseNumber, caseOf, clustersIn, kindOf, top
 use Rattle.topology.specs.Walk.{components, componentsIn, fourteen}
 use Rattle.topology.proofs.Answers.{clusters-le}
 use Rattle.stages.specs.Vertices.{Vertex, filled, fresh, siteVertices}
-use Rattle.stages.specs.Samples.{boxOf, clustersAt, edgesOf, endsOf}
-use Rattle.vertices.specs.Appending.{pointedOf}
-use Rattle.passes.specs.Passing.{candidateOf, caseCount, casesTo, isCase}
+use Rattle.stages.specs.Samples.{boxOf, clustersAt, edgesOf, endsOf, caseCount, isCase}
+use Rattle.site_vertices.specs.Inner.Appending.{pointedOf}
+use Rattle.vertex_pass.specs.Inner.Passing.{candidateOf, casesTo}
 
 -- ---- the clusters
 

@@ -17,21 +17,21 @@ use Rattle.points.specs.declared.Point.{Point}
 use Rattle.points.specs.declared.Sum.{Sum}
 use Rattle.points.specs.Means.{meanOf, meanSum}
 use Rattle.points.proofs.Means.{mean-sum, sum-count}
-use Rattle.tets.specs.March.{none}
+use Rattle.march.specs.March.{none}
 use Rattle.stages.specs.Boxes.{owned}
 use Rattle.stages.specs.Vertices.{Vertex, apart, filled, fresh, held, several}
 use Rattle.stages.specs.Meshes.{bookOf, positionsOf}
 use Rattle.stages.specs.Samples.{edgesOf, pointsOf, positionAt}
-use Rattle.stages.specs.Steps.{number, paint}
+use Rattle.stages.specs.Inner.Steps.{number, paint}
 use Rattle.stages.proofs.Table.{paint-length}
-use Rattle.vertices.specs.Drawing.{joinTo, claimTo}
-use Rattle.vertices.specs.Appending.{Appended, Space, paintFrom, pointedOf, singlesOf}
-use Rattle.vertices.proofs.Clusters.{cluster-points, cluster-painted}
-use Rattle.vertices.proofs.Points.{points-kept, points-long}
-use Rattle.vertices.proofs.Appending.{appended-same, paint-singles, singles-are}
-use Rattle.passes.specs.declared.Pass.{Pass}
-use Rattle.passes.specs.Passing.{Ahead, Passed, candidateOf, placeBy, splitBy}
-use Rattle.passes.proofs.Passing.{passed-none, passed-same}
+use Rattle.site_vertices.specs.Inner.Drawing.{joinTo, claimTo}
+use Rattle.site_vertices.specs.Inner.Appending.{Appended, Space, paintFrom, pointedOf, singlesOf}
+use Rattle.site_vertices.proofs.Clusters.{cluster-points, cluster-painted}
+use Rattle.site_vertices.proofs.Points.{points-kept, points-long}
+use Rattle.site_vertices.proofs.Appending.{appended-same, paint-singles, singles-are}
+use Rattle.vertex_pass.specs.declared.Pass.{Pass}
+use Rattle.vertex_pass.specs.Inner.Passing.{Ahead, Passed, candidateOf, placeBy, splitBy}
+use Rattle.vertex_pass.proofs.Passing.{passed-none, passed-same}
 
 -- ---- numbers written over other numbers
 

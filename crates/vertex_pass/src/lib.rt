@@ -9,11 +9,11 @@ ghost use lib.Dec.{ltb};
 ghost use lib.ListN.{length, getD, set, replicate};
 ghost use Rattle.laws.specs.Ranges.{each};
 ghost use Rattle.lattice.specs.Sites.{sites};
-ghost use Rattle.tets.specs.March.{none};
+ghost use Rattle.march.specs.March.{none};
 ghost use Rattle.stages.specs.Vertices.{siteVertices, candidates};
 ghost use Rattle.stages.specs.Samples.{boxOf};
-ghost use Rattle.vertices.specs.Drawing.{Drawable};
-ghost use Rattle.passes.specs.Passing.{flagOf, candidateOf, Passed, Ahead, start, casesTo, Masked, Drawn};
+ghost use Rattle.site_vertices.specs.Inner.Drawing.{Drawable};
+ghost use Rattle.vertex_pass.specs.Inner.Passing.{flagOf, candidateOf, Passed, Ahead, start, casesTo, Masked, Drawn};
 
 // An edge without a vertex.
 pub const NONE: u32 = 0xFFFF_FFFF;
@@ -61,7 +61,7 @@ fn draw_vertex(
     ensures { λ r. ⌜ Passed frame n (now (samples .entry)) (flagOf (now (flags .entry))) (candidateOf n (now (samples .entry)) s mask) at (now (table .entry)) (now (positions .entry)) (now (book .entry)) r (now (table .exit)) (now (positions .exit)) (now (book .exit)) ⌝ }
 {
     let next = at.next;
-    let sum = vertices::draw_cluster(frame, n, samples, table, s, mask, next as u32);
+    let sum = site_vertices::draw_cluster(frame, n, samples, table, s, mask, next as u32);
     let held = sum.count;
     if held == 0 {
         return at;
@@ -69,7 +69,7 @@ fn draw_vertex(
     let tried = at.tried + 1;
     let split = at.split;
     if is_split(flags, at.tried, held) {
-        let next = vertices::draw_singles(
+        let next = site_vertices::draw_singles(
             frame,
             n,
             samples,
@@ -88,7 +88,7 @@ fn draw_vertex(
         };
     }
     let p = points::mean(sum);
-    vertices::put_vertex(positions, book, next, p, s, held, 0);
+    site_vertices::put_vertex(positions, book, next, p, s, held, 0);
     Pass {
         next: next + 1,
         tried,
@@ -169,7 +169,7 @@ fn draw_at(
     if m == 0 {
         return at;
     }
-    let ends = vertices::ends_of(n, samples, s);
+    let ends = site_vertices::ends_of(n, samples, s);
     let found = topology::test_topology(m, cluster, ends, h);
     let case = found.case;
     let clusters = found.clusters;

@@ -12,10 +12,10 @@ use Rattle.refusals.specs.Refusals.{settingsOk, siteRoom, vertexRoom, cellRoom,
 use Rattle.stages.specs.Meshes.{meshOf}
 use Rattle.stages.proofs.Examples.{stagesKey}
 use Rattle.build.specs.Answer.{Order, status, orderBox, orderVertices, orderPositions, orderTriangles}
-use Rattle.text.specs.Numbers.{digits, dec}
-use Rattle.text.specs.Lines.{lineOf}
-use Rattle.text.specs.Example as count
-use Rattle.text.proofs.Example.{example-file}
+use Rattle.lines.specs.Numbers.{digits, dec}
+use Rattle.lines.specs.Lines.{lineOf}
+use Rattle.lines.specs.Example as count
+use Rattle.lines.proofs.Example.{example-file}
 use Rattle.count.specs.Count.{headSides, pointOf, headFrame, floatsOf, workOrder}
 use Rattle.count.specs.Told.{file}
 use Rattle.decimals.specs.Decimals.{signOf, signedDec, pointed, decimal}

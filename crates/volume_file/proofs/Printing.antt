@@ -17,12 +17,11 @@ use Rattle.laws.specs.Written.{Written}
 use Rattle.laws.proofs.Ranges.{eq-or}
 use Rattle.laws.proofs.Sizes.{rd}
 use Rattle.laws.proofs.Written.{written-more}
-use Rattle.text.specs.Numbers.{dec}
-use Rattle.text.specs.Lines.{decLine}
-use Rattle.text.specs.Answer.{refusalText}
-use Rattle.text.proofs.Decimals.{dec-room}
-use Rattle.text.proofs.Lines.{dec-line-length}
-use Rattle.text.proofs.Printing.{refusal-length}
+use Rattle.lines.specs.Numbers.{dec}
+use Rattle.lines.specs.Lines.{decLine}
+use Rattle.lines.specs.Answer.{refusalText}
+use Rattle.lines.proofs.Lines.{dec-line-room}
+use Rattle.lines.proofs.Printing.{refusal-length}
 use Rattle.decimals.specs.Decimals.{signOf, signedDec, decimal}
 use Rattle.decimals.proofs.Printing.{sign-room, signed-room, decimal-room}
 use Rattle.volume.specs.declared.Volume.{Volume}
@@ -40,15 +39,12 @@ volume-room d z h =
     let t = decimal (3 * d) (sizeOf z / 6) in
     omega (arith, length-append (signOf z) (t ++ (10 ∷ [])), length-append t (10 ∷ []), sign-room z, decimal-room (3 * d) (sizeOf z / 6))
 
-line-room : (key : List ℕ) (n : ℕ) → length (decLine key n) ≤ length key + 21
-line-room key n = omega (arith, dec-line-length key n, dec-room n)
-
 -- room for a line, whichever number it has, and where it ends
 pub line-fits : (at : ℕ) (key : List ℕ) (n m : ℕ) → at + (length key + 21) ≤ m → at + length (decLine key n) ≤ m
-line-fits at key n m h = omega (arith, line-room key n)
+line-fits at key n m h = omega (arith, dec-line-room key n)
 
 pub line-ends : (l l′ : List ℕ) (at : ℕ) (key : List ℕ) (n r : ℕ) → Written l at (decLine key n) l′ r → r ≤ at + (length key + 21)
-line-ends l l′ at key n r p = omega (arith, p .next, line-room key n)
+line-ends l l′ at key n r p = omega (arith, p .next, dec-line-room key n)
 
 lines-room : (d t : ℕ) (z : ℤ) → d < 7 → length (volumeText d t z) ≤ 161
 unfolding volumeText
@@ -59,8 +55,8 @@ lines-room d t z h =
     let y = length-append a (sixLine z ++ (volumeLine d z ++ b)) in
     let u = length-append (sixLine z) (volumeLine d z ++ b) in
     let v = length-append (volumeLine d z) b in
-    let la : length a ≤ 31 = line-room trianglesKey t in
-    let lb : length b ≤ 28 = line-room sixthsKey (sizeOf z % 6) in
+    let la : length a ≤ 31 = dec-line-room trianglesKey t in
+    let lb : length b ≤ 28 = dec-line-room sixthsKey (sizeOf z % 6) in
     omega (arith, x, y, u, v, la, lb, refusal-length 0, six-room z, volume-room d z h)
 
 pub answer-room : (d t : ℕ) (v : Volume) → (v .status ≡ 0 → d < 7) → length (answerText d t v) ≤ 161

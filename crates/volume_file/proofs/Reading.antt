@@ -8,9 +8,9 @@ use mir.Syntax.{w64}
 use mir.Val.{SFits}
 use mir.ValLaws.{toZ-ofZ}
 use Rattle.laws.proofs.Sizes.{rd}
-use Rattle.text.specs.Numbers.{dec}
-use Rattle.text.specs.Lines.{Word}
-use Rattle.text.proofs.Decimals.{dec-same}
+use Rattle.lines.specs.Numbers.{dec}
+use Rattle.lines.specs.Lines.{Word}
+use Rattle.lines.proofs.Decimals.{dec-same}
 use Rattle.decimals.specs.Decimals.{signedDec}
 use Rattle.decimals.specs.Readers as read
 use Rattle.decimals.specs.Readers.{NaturalOf, SignedOf}

@@ -10,8 +10,8 @@ use lib.Ieee.{Float, lt}
 use lib.ListN.{length, take}
 use Rattle.laws.specs.Written.{Written, Within}
 use Rattle.laws.proofs.Ranges.{lt-or}
-use Rattle.text.specs.Answer.{refusalText}
-use Rattle.text.proofs.Printing.{refusal-length}
+use Rattle.lines.specs.Answer.{refusalText}
+use Rattle.lines.proofs.Printing.{refusal-length}
 use Rattle.stages.specs.Meshes.{meshOf}
 use Rattle.build.specs.Answer.{Order, status, orderBox, orderVertices, orderPositions, orderTriangles, Lists, lengthsOf}
 use Rattle.count.specs.declared.Built.{Built}

@@ -7,9 +7,9 @@ use lib.IntN.{ℤ, pos}
 use lib.ListN.{length}
 use lib.Ieee.{Float, binary64, fin, ofInt}
 use Rattle.laws.specs.Ints.{sizeOf}
-use Rattle.text.specs.Lines.{decLine, lineOf}
-use Rattle.text.specs.Answer as text
-use Rattle.text.specs.Answer.{refusalText}
+use Rattle.lines.specs.Lines.{decLine, lineOf}
+use Rattle.lines.specs.Answer as text
+use Rattle.lines.specs.Answer.{refusalText}
 use Rattle.stages.specs.Meshes.{meshOf}
 use Rattle.decimals.specs.Decimals.{signOf, signedDec, decimal}
 use Rattle.build.specs.Answer.{Order, status, orderBox, orderVertices, orderPositions, orderTriangles}

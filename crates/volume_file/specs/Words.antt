@@ -5,7 +5,7 @@ use Prim.Native.Nat.{ℕ, _<_}
 use lib.IntN.{ℤ}
 use mir.Syntax.{w64}
 use mir.Val.{SFits}
-use Rattle.text.specs.Numbers.{dec}
+use Rattle.lines.specs.Numbers.{dec}
 use Rattle.decimals.specs.Decimals.{signedDec}
 use Rattle.volume_file.specs.declared.Words.{Words}
 use Rattle.volume_file.specs.declared.Words.the-variants.{Wrong, Right}

@@ -57,11 +57,11 @@ fn put_six(out: &mut [u8], at: usize, z: i64) -> usize
     requires { ⌜ at + 26 ≤ length (now out) ⌝ }
     ensures { λ r. ⌜ Written (now (out .entry)) at (sixLine z) (now (out .exit)) r ⌝ }
 {
-    let a = text::put_text(out, at, b"six=");
+    let a = lines::put_text(out, at, b"six=");
     let b = decimals::put_sign(out, a, z);
     let n = units::size_of(z);
-    let c = text::put_dec(out, b, n);
-    text::put_text(out, c, b"\n")
+    let c = lines::put_dec(out, b, n);
+    lines::put_text(out, c, b"\n")
 }
 
 // The line of the volume, appended.
@@ -69,11 +69,11 @@ fn put_volume(out: &mut [u8], at: usize, d: usize, z: i64) -> usize
     requires { ⌜ (d < 7) × (at + 48 ≤ length (now out)) ⌝ }
     ensures { λ r. ⌜ Written (now (out .entry)) at (volumeLine d z) (now (out .exit)) r ⌝ }
 {
-    let a = text::put_text(out, at, b"volume=");
+    let a = lines::put_text(out, at, b"volume=");
     let b = decimals::put_sign(out, a, z);
     let n = units::size_of(z) / 6;
     let c = decimals::put_decimal(out, b, 3 * d, n);
-    text::put_text(out, c, b"\n")
+    lines::put_text(out, c, b"\n")
 }
 
 // The five lines, appended: they never take more than 161 bytes.
@@ -82,11 +82,11 @@ fn put_lines(out: &mut [u8], at: usize, d: usize, triangles: u64, z: i64) -> usi
     ensures { λ r. ⌜ Written (now (out .entry)) at (volumeText d triangles z) (now (out .exit)) r ⌝ }
 {
     let n = units::size_of(z) % 6;
-    let a = text::print_refusal(out, at, 0);
-    let b = text::put_line(out, a, b"triangles=", triangles);
+    let a = lines::print_refusal(out, at, 0);
+    let b = lines::put_line(out, a, b"triangles=", triangles);
     let c = put_six(out, b, z);
     let e = put_volume(out, c, d, z);
-    text::put_line(out, e, b"sixths=", n)
+    lines::put_line(out, e, b"sixths=", n)
 }
 
 // What is printed of an answer: five lines, or a refusal's one, at the front of `out`.
@@ -98,7 +98,7 @@ fn print(out: &mut [u8], d: usize, triangles: u64, v: Volume) -> usize
     if status == 0 {
         return put_lines(out, 0, d, triangles, v.six);
     }
-    text::print_refusal(out, 0, status as u64)
+    lines::print_refusal(out, 0, status as u64)
 }
 
 // ---- the work
@@ -155,7 +155,7 @@ pub fn volume_text(input: &[u8], digits: usize, origin: Whole, out: &mut [u8; 16
     let answer = built.answer;
     let status = answer.status;
     if status != 0 {
-        return text::print_refusal(out, 0, status as u64);
+        return lines::print_refusal(out, 0, status as u64);
     }
     let v = answer.vertices * 3;
     let t = answer.triangles * 3;

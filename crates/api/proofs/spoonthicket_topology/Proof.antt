@@ -2,8 +2,8 @@
 use mathlib.Core.Path.{_≡_, ap, _∙_}
 use mathlib.Core.List.{List}
 use lib.Dec.{eqb}
-use Rattle.sides.specs.Sides.{base}
-use Rattle.sides.specs.declared.Sample.{Sample}
+use Rattle.samples.specs.Sides.{base}
+use Rattle.samples.specs.declared.Sample.{Sample}
 use Rattle.topology.specs.declared.TopologyResult.{TopologyResult}
 use Rattle.topology.specs.Topology.{topologyOf, caseNumber}
 use borrow.Author.Needs.{needs}

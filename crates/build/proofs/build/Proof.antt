@@ -2,7 +2,7 @@
 use Rattle.build.proofs.Answering.{refused-answer, refused-masks, refused-table, refused-positions, refused-book, refused-triangles, refused-edges}
 use Rattle.build.specs.Answer.{order, status}
 use Rattle.refusals.proofs.Status.{reply-status, reply-crossed}
-use Rattle.sides.specs.Sides.{base}
+use Rattle.samples.specs.Sides.{base}
 use lib.ListN.{length}
 use mathlib.Core.Path.{_≡_, sym, _∙_}
 use borrow.Author.Needs.{needs}

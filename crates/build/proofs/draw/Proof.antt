@@ -1,6 +1,6 @@
 -- `build::draw` meets its contract. Assumes nothing.
 use Rattle.build.proofs.Passes.{pass-ahead, pass-stands, pass-split}
-use Rattle.passes.specs.Passing.{flagOf}
+use Rattle.vertex_pass.specs.Inner.Passing.{flagOf}
 use native.Mathlib.Omega.{arith}
 use mathlib.Core.Path.{refl}
 use borrow.Author.Needs.{needs}

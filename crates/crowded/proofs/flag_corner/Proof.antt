@@ -1,10 +1,10 @@
--- `flags::flag_corner` meets its contract. Assumes nothing.
+-- `crowded::flag_corner` meets its contract. Assumes nothing.
 use borrow.Author.Needs.{needs}
 use native.Mathlib.Omega.{arith}
 use mathlib.Core.Path.{sym, _∙_}
-use Rattle.flags.proofs.Turns.{flagged-bad, corner-yes, corner-no}
-use Rattle.flags.proofs.flag_corner.Statement.{statement}
-use Rattle.flags.proofs.flag_corner.Tie as tie
+use Rattle.crowded.proofs.Turns.{flagged-bad, corner-yes, corner-no}
+use Rattle.crowded.proofs.flag_corner.Statement.{statement}
+use Rattle.crowded.proofs.flag_corner.Tie as tie
 
 in-bad-requires : tie.Need-in-bad-requires
 in-bad-requires c κs = search needs

@@ -1,4 +1,4 @@
--- `flags::flag_corners` meets its contract: after k turns the list is `fold (ownerTurn ..) k` of what it was. Assumes nothing.
+-- `crowded::flag_corners` meets its contract: after k turns the list is `fold (ownerTurn ..) k` of what it was. Assumes nothing.
 use native.Mathlib.Omega.{arith}
 use mathlib.Core.Path.{ap, _∙_}
 use Prim.Native.Nat.{ℕ, _-_}
@@ -6,10 +6,10 @@ use native.Mathlib.Nat.{le-antisymm}
 use lib.ListN.{length}
 use Rattle.laws.specs.Ranges.{any}
 use Rattle.laws.proofs.Ranges.{fold-done}
-use Rattle.flags.specs.Turns.{wanted, ownerTurn}
-use Rattle.flags.proofs.Turns.{Looped, looped-start, looped-ready, looped-turn, owner-keeps}
-use Rattle.flags.proofs.flag_corners.Statement.{statement}
-use Rattle.flags.proofs.flag_corners.Tie as tie
+use Rattle.crowded.specs.Inner.Turns.{wanted, ownerTurn}
+use Rattle.crowded.proofs.Turns.{Looped, looped-start, looped-ready, looped-turn, owner-keeps}
+use Rattle.crowded.proofs.flag_corners.Statement.{statement}
+use Rattle.crowded.proofs.flag_corners.Tie as tie
 
 abbrev Inv-loop : tie.InvT-loop
 Inv-loop tris book room₀ a found₀ k₀ room found k = Looped tris a (ownerTurn tris book a) (wanted tris book) room₀ k room found

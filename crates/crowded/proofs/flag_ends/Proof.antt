@@ -1,10 +1,10 @@
--- `flags::flag_ends` meets its contract. Assumes nothing.
+-- `crowded::flag_ends` meets its contract. Assumes nothing.
 use mathlib.Core.Path.{sym}
 use lib.Seq.{length-take-le}
-use Rattle.flags.proofs.Meaning.{found-ready, found-low, found-ends}
+use Rattle.crowded.proofs.Meaning.{found-ready, found-low, found-ends}
 use borrow.Author.Needs.{needs}
-use Rattle.flags.proofs.flag_ends.Statement.{statement}
-use Rattle.flags.proofs.flag_ends.Tie as tie
+use Rattle.crowded.proofs.flag_ends.Statement.{statement}
+use Rattle.crowded.proofs.flag_ends.Tie as tie
 
 prepare-requires : tie.Need-prepare-requires
 prepare-requires c κs = search needs

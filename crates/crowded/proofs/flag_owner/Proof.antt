@@ -1,9 +1,9 @@
--- `flags::flag_owner` meets its contract. Assumes nothing.
+-- `crowded::flag_owner` meets its contract. Assumes nothing.
 use borrow.Author.Needs.{needs}
 use borrow.Author.Tests.{lt-ltb, le-ltb}
-use Rattle.flags.proofs.Turns.{found-yes, found-no, mark-yes, mark-no}
-use Rattle.flags.proofs.flag_owner.Statement.{statement}
-use Rattle.flags.proofs.flag_owner.Tie as tie
+use Rattle.crowded.proofs.Turns.{found-yes, found-no, mark-yes, mark-no}
+use Rattle.crowded.proofs.flag_owner.Statement.{statement}
+use Rattle.crowded.proofs.flag_owner.Tie as tie
 
 mul-w : tie.Need-mul-w
 mul-w c = search needs

@@ -1,10 +1,10 @@
--- `flags::flag_owners` meets its contract. Assumes nothing.
+-- `crowded::flag_owners` meets its contract. Assumes nothing.
 use mathlib.Core.Path.{sym, _∙_}
 use lib.Seq.{length-take-le}
-use Rattle.flags.proofs.Meaning.{fits-under, found-ready, found-low, found-owners, owners-found}
+use Rattle.crowded.proofs.Meaning.{fits-under, found-ready, found-low, found-owners, owners-found}
 use borrow.Author.Needs.{needs}
-use Rattle.flags.proofs.flag_owners.Statement.{statement}
-use Rattle.flags.proofs.flag_owners.Tie as tie
+use Rattle.crowded.proofs.flag_owners.Statement.{statement}
+use Rattle.crowded.proofs.flag_owners.Tie as tie
 
 prepare-requires : tie.Need-prepare-requires
 prepare-requires c κs = search needs

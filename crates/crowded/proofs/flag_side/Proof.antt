@@ -1,11 +1,11 @@
--- `flags::flag_side` meets its contract. Assumes nothing.
+-- `crowded::flag_side` meets its contract. Assumes nothing.
 use borrow.Author.Needs.{needs}
 use native.Mathlib.Omega.{arith}
 use Prim.Native.Nat.{_+_, _<_}
 use lib.ListN.{length, getD, length-set}
-use Rattle.flags.proofs.Turns.{next-low, flag-yes, flag-no, found-yes, found-no, side-yes, side-no}
-use Rattle.flags.proofs.flag_side.Statement.{statement}
-use Rattle.flags.proofs.flag_side.Tie as tie
+use Rattle.crowded.proofs.Turns.{next-low, flag-yes, flag-no, found-yes, found-no, side-yes, side-no}
+use Rattle.crowded.proofs.flag_side.Statement.{statement}
+use Rattle.crowded.proofs.flag_side.Tie as tie
 
 mul-if1 : tie.Need-mul-if1
 mul-if1 c = search needs

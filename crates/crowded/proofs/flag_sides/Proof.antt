@@ -1,4 +1,4 @@
--- `flags::flag_sides` meets its contract: after k turns the list is `fold (endTurn ..) k` of what it was. Assumes nothing.
+-- `crowded::flag_sides` meets its contract: after k turns the list is `fold (endTurn ..) k` of what it was. Assumes nothing.
 use native.Mathlib.Omega.{arith}
 use mathlib.Core.Path.{ap, _∙_}
 use Prim.Native.Nat.{ℕ, _-_}
@@ -7,10 +7,10 @@ use lib.ListN.{length}
 use Rattle.laws.specs.Ranges.{any}
 use Rattle.laws.proofs.Ranges.{fold-done}
 use Rattle.pairs.specs.Sides.{over}
-use Rattle.flags.specs.Turns.{endTurn}
-use Rattle.flags.proofs.Turns.{Looped, looped-start, looped-ready, looped-turn, end-keeps}
-use Rattle.flags.proofs.flag_sides.Statement.{statement}
-use Rattle.flags.proofs.flag_sides.Tie as tie
+use Rattle.crowded.specs.Inner.Turns.{endTurn}
+use Rattle.crowded.proofs.Turns.{Looped, looped-start, looped-ready, looped-turn, end-keeps}
+use Rattle.crowded.proofs.flag_sides.Statement.{statement}
+use Rattle.crowded.proofs.flag_sides.Tie as tie
 
 abbrev Inv-loop : tie.InvT-loop
 Inv-loop tris room₀ a found₀ k₀ room found k = Looped tris a (endTurn tris a) (over tris) room₀ k room found

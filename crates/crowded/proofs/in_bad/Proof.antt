@@ -1,10 +1,10 @@
--- `flags::in_bad` meets its contract. Assumes nothing.
+-- `crowded::in_bad` meets its contract. Assumes nothing.
 use borrow.Author.Needs.{needs}
 use native.Mathlib.Omega.{arith}
 use Rattle.pairs.specs.Sides.{next}
-use Rattle.flags.proofs.Turns.{flagged-first, flagged-second, flagged-third}
-use Rattle.flags.proofs.in_bad.Statement.{statement}
-use Rattle.flags.proofs.in_bad.Tie as tie
+use Rattle.crowded.proofs.Turns.{flagged-first, flagged-second, flagged-third}
+use Rattle.crowded.proofs.in_bad.Statement.{statement}
+use Rattle.crowded.proofs.in_bad.Tie as tie
 
 next-corner-requires : tie.Need-next-corner-requires
 next-corner-requires c κs = search needs

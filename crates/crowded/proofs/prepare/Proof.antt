@@ -1,11 +1,11 @@
--- `flags::prepare` meets its contract. Assumes nothing.
+-- `crowded::prepare` meets its contract. Assumes nothing.
 use mathlib.Core.Path.{sym}
 use native.Mathlib.Omega.{arith}
 use lib.Seq.{length-take-le}
-use Rattle.flags.proofs.Meaning.{prepared-by}
+use Rattle.crowded.proofs.Meaning.{prepared-by}
 use borrow.Author.Needs.{needs}
-use Rattle.flags.proofs.prepare.Statement.{statement}
-use Rattle.flags.proofs.prepare.Tie as tie
+use Rattle.crowded.proofs.prepare.Statement.{statement}
+use Rattle.crowded.proofs.prepare.Tie as tie
 
 mul-w : tie.Need-mul-w
 mul-w c = search needs

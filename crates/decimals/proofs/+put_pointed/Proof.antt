@@ -9,7 +9,7 @@ use borrow.Fn.PlainCycle.{Measures, is, falls, and}
 use Rattle.decimals.proofs.put_pointed.Reads as put-pointed
 use Rattle.decimals.proofs.put_pointed.Kinds as put-pointed-kinds
 use Rattle.decimals.proofs.+put_pointed.Lts-put_pointed as put-pointed-lts
-use Rattle.text.proofs.put_dec.Reads as put-dec-reads
+use Rattle.lines.proofs.put_dec.Reads as put-dec-reads
 use Rattle.decimals.proofs.+put_pointed.{statement}
 use Rattle.decimals.proofs.+put_pointed.Tie.{close}
 

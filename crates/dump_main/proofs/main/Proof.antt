@@ -7,7 +7,7 @@ use Prim.Native.Nat.{_≤_}
 use lib.ListN.{length}
 use lib.Seq.{length-take-le}
 use Rattle.lattice.specs.Sites.{sites}
-use Rattle.marks.specs.Loops.{Sampled}
+use Rattle.marks.specs.Inner.Loops.{Sampled}
 use Rattle.refusals.proofs.Granted.{granted}
 use Rattle.build.specs.declared.Answer.{Answer}
 use Rattle.build.specs.Answer.{Order, Lists}

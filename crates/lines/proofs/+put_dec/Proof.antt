@@ -1,17 +1,17 @@
--- `text::put_dec` meets its contract: the tenth first, then the last digit. Assumes nothing.
+-- `lines::put_dec` meets its contract: the tenth first, then the last digit. Assumes nothing.
 use Prim.Native.Nat.{ℕ, _<_, _≤_}
 use native.Mathlib.Omega.{arith}
 use borrow.Author.Needs.{needs}
-use Rattle.text.proofs.Printing.{put-digit, put-last, longer}
-use Rattle.text.proofs.Decimals.{dec-some}
+use Rattle.lines.proofs.Printing.{put-digit, put-last, longer}
+use Rattle.lines.proofs.Decimals.{dec-some}
 use Rattle.laws.proofs.Written.{written-length}
 use borrow.Fn.Kinds.{In}
 use borrow.Fn.PlainCycle.{Measures, is, falls, and}
-use Rattle.text.proofs.put_dec.Reads as put-dec
-use Rattle.text.proofs.put_dec.Kinds as put-dec-kinds
-use Rattle.text.proofs.+put_dec.Lts-put_dec as put-dec-lts
-use Rattle.text.proofs.+put_dec.{statement}
-use Rattle.text.proofs.+put_dec.Tie.{close}
+use Rattle.lines.proofs.put_dec.Reads as put-dec
+use Rattle.lines.proofs.put_dec.Kinds as put-dec-kinds
+use Rattle.lines.proofs.+put_dec.Lts-put_dec as put-dec-lts
+use Rattle.lines.proofs.+put_dec.{statement}
+use Rattle.lines.proofs.+put_dec.Tie.{close}
 
 abbrev μ-put-dec : Measures 1 put-dec-kinds.ps ℕ
 μ-put-dec κs a = a .1 .1 .0

@@ -1,11 +1,11 @@
--- `text::dec_at` meets its contract: the first digit is read apart. Assumes nothing.
+-- `lines::dec_at` meets its contract: the first digit is read apart. Assumes nothing.
 use Prim.Native.Nat.{_≤_}
 use native.Mathlib.Omega.{arith}
 use borrow.Author.Needs.{needs}
 use lib.ListN.{getD}
-use Rattle.text.proofs.ReadDecimal.{no-byte, no-digit}
-use Rattle.text.proofs.dec_at.Statement.{statement}
-use Rattle.text.proofs.dec_at.Tie as tie
+use Rattle.lines.proofs.ReadDecimal.{no-byte, no-digit}
+use Rattle.lines.proofs.dec_at.Statement.{statement}
+use Rattle.lines.proofs.dec_at.Tie as tie
 
 returns : tie.Need-returns
 returns c = no-byte _ _ (c .if1 .taken)

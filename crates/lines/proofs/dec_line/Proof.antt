@@ -1,10 +1,10 @@
--- `text::dec_line` meets its contract. Assumes nothing.
+-- `lines::dec_line` meets its contract. Assumes nothing.
 use borrow.Author.Needs.{needs}
 use mathlib.Core.Path.{sym, _∙_}
-use Rattle.text.specs.Lines.{decEnd, Small}
-use Rattle.text.proofs.Keys.{no-key, key-within, after-key}
-use Rattle.text.proofs.dec_line.Statement.{statement}
-use Rattle.text.proofs.dec_line.Tie as tie
+use Rattle.lines.specs.Lines.{decEnd, Small}
+use Rattle.lines.proofs.Keys.{no-key, key-within, after-key}
+use Rattle.lines.proofs.dec_line.Statement.{statement}
+use Rattle.lines.proofs.dec_line.Tie as tie
 
 has-requires : tie.Need-has-requires
 has-requires c κs = search needs

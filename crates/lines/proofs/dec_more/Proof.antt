@@ -1,11 +1,11 @@
--- `text::dec_more` meets its contract: what has been read is the print of the number so far. Assumes nothing.
+-- `lines::dec_more` meets its contract: what has been read is the print of the number so far. Assumes nothing.
 use Prim.Native.Nat.{_-_, _≤_}
 use native.Mathlib.Omega.{arith}
 use borrow.Author.Needs.{needs}
 use lib.ListN.{length, getD}
-use Rattle.text.proofs.ReadDecimal.{Sofar, start, turn, got, bad-byte, bad-zero, bad-long, bad-end}
-use Rattle.text.proofs.dec_more.Statement.{statement}
-use Rattle.text.proofs.dec_more.Tie as tie
+use Rattle.lines.proofs.ReadDecimal.{Sofar, start, turn, got, bad-byte, bad-zero, bad-long, bad-end}
+use Rattle.lines.proofs.dec_more.Statement.{statement}
+use Rattle.lines.proofs.dec_more.Tie as tie
 
 abbrev Inv-loop : tie.InvT-loop
 Inv-loop s from d n₀ i₀ n i = Sofar s from n i

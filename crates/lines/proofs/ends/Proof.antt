@@ -1,8 +1,8 @@
--- `text::ends` meets its contract: past the end the list's default stands, which is no LF. Assumes nothing.
+-- `lines::ends` meets its contract: past the end the list's default stands, which is no LF. Assumes nothing.
 use borrow.Author.Needs.{needs}
 use lib.ListN.{List·getD-eq-default}
-use Rattle.text.proofs.ends.Statement.{statement}
-use Rattle.text.proofs.ends.Tie as tie
+use Rattle.lines.proofs.ends.Statement.{statement}
+use Rattle.lines.proofs.ends.Tie as tie
 
 shared-slice-read-result : tie.Need-shared-slice-read-result
 shared-slice-read-result c = search needs

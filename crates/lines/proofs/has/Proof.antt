@@ -1,13 +1,13 @@
--- `text::has` meets its contract: byte by byte. Assumes nothing.
+-- `lines::has` meets its contract: byte by byte. Assumes nothing.
 use Prim.Native.Nat.{_+_, _-_, _≤_}
 use native.Mathlib.Nat.{add-zero, add-assoc}
 use native.Mathlib.Omega.{arith}
 use mathlib.Core.Path.{_≡_, sym, _∙_}
 use lib.ListN.{length, drop}
-use Rattle.text.specs.Readers.{starts}
-use Rattle.text.proofs.Keys.{starts-none, starts-end, starts-same, starts-differ}
-use Rattle.text.proofs.has.Statement.{statement}
-use Rattle.text.proofs.has.Tie as tie
+use Rattle.lines.specs.Readers.{starts}
+use Rattle.lines.proofs.Keys.{starts-none, starts-end, starts-same, starts-differ}
+use Rattle.lines.proofs.has.Statement.{statement}
+use Rattle.lines.proofs.has.Tie as tie
 
 abbrev Inv-loop : tie.InvT-loop
 Inv-loop s at key i₀ i = (i ≤ length key) × (i ≤ length s - at) × (starts key (drop at s) ≡ starts (drop i key) (drop (at + i) s))

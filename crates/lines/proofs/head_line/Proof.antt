@@ -1,13 +1,13 @@
--- `text::head_line` meets its contract: a key a line. Assumes nothing.
+-- `lines::head_line` meets its contract: a key a line. Assumes nothing.
 use Prim.Native.Nat.{ℕ, _≤_, _<_, zero-le}
 use native.Mathlib.Omega.{arith}
 use mathlib.Core.Path.{_≡_}
-use Rattle.text.specs.Lines.{lineOf, okOf}
-use Rattle.text.specs.CountFile.{headField}
+use Rattle.lines.specs.Lines.{lineOf, okOf}
+use Rattle.lines.specs.CountFile.{headField}
 use borrow.Author.Needs.{needs}
 use Rattle.laws.proofs.Ranges.{le-ne}
-use Rattle.text.proofs.head_line.Statement.{statement}
-use Rattle.text.proofs.head_line.Tie as tie
+use Rattle.lines.proofs.head_line.Statement.{statement}
+use Rattle.lines.proofs.head_line.Tie as tie
 
 last : (k : ℕ) → k < 11 → 10 ≤ k → k ≡ 10
 last k h g = omega arith

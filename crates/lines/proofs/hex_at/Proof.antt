@@ -1,14 +1,14 @@
--- `text::hex_at` meets its contract: what has been read is the print of the number so far. Assumes nothing.
+-- `lines::hex_at` meets its contract: what has been read is the print of the number so far. Assumes nothing.
 use Prim.Native.Nat.{_-_, _+_, _*_, _^_, _<_, suc}
 use native.Mathlib.Omega.{arith}
 use borrow.Author.Needs.{needs}
 use mathlib.Core.Path.{sym, _∙_}
 use borrow.Author.Tests.{eqb-true, eqb-false}
 use lib.ListN.{getD}
-use Rattle.text.proofs.Hex.{fits, small-word, val-le}
-use Rattle.text.proofs.ReadHex.{Sofar, start, turn, bad-digit, bad-end, got, too-short}
-use Rattle.text.proofs.hex_at.Statement.{statement}
-use Rattle.text.proofs.hex_at.Tie as tie
+use Rattle.lines.proofs.Hex.{fits, small-word, val-le}
+use Rattle.lines.proofs.ReadHex.{Sofar, start, turn, bad-digit, bad-end, got, too-short}
+use Rattle.lines.proofs.hex_at.Statement.{statement}
+use Rattle.lines.proofs.hex_at.Tie as tie
 
 abbrev Inv-loop : tie.InvT-loop
 Inv-loop s from n₀ k₀ n k = Sofar s from n k

@@ -1,10 +1,10 @@
--- `text::hex_line` meets its contract. Assumes nothing.
+-- `lines::hex_line` meets its contract. Assumes nothing.
 use borrow.Author.Needs.{needs}
 use mathlib.Core.Path.{sym, _∙_}
-use Rattle.text.specs.Lines.{hexEnd, Word}
-use Rattle.text.proofs.Keys.{no-key, key-within, after-key}
-use Rattle.text.proofs.hex_line.Statement.{statement}
-use Rattle.text.proofs.hex_line.Tie as tie
+use Rattle.lines.specs.Lines.{hexEnd, Word}
+use Rattle.lines.proofs.Keys.{no-key, key-within, after-key}
+use Rattle.lines.proofs.hex_line.Statement.{statement}
+use Rattle.lines.proofs.hex_line.Tie as tie
 
 has-requires : tie.Need-has-requires
 has-requires c κs = search needs

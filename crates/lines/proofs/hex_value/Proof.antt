@@ -1,9 +1,9 @@
--- `text::hex_value` meets its contract. Assumes nothing.
+-- `lines::hex_value` meets its contract. Assumes nothing.
 use borrow.Author.Needs.{needs}
 use borrow.Author.Tests.{lt-ltb, le-ltb}
-use Rattle.text.specs.Readers.{hexVal}
-use Rattle.text.proofs.hex_value.Statement.{statement}
-use Rattle.text.proofs.hex_value.Tie as tie
+use Rattle.lines.specs.Readers.{hexVal}
+use Rattle.lines.proofs.hex_value.Statement.{statement}
+use Rattle.lines.proofs.hex_value.Tie as tie
 
 returns : tie.Need-returns
 unfolding hexVal

@@ -1,12 +1,12 @@
--- `text::print_answer` meets its contract. Assumes nothing.
+-- `lines::print_answer` meets its contract. Assumes nothing.
 use native.Mathlib.Omega.{arith}
 use borrow.Author.Needs.{needs}
 use Rattle.laws.proofs.Written.{written-more, written-length}
-use Rattle.text.specs.Lines.{lines}
-use Rattle.text.specs.Answer.{answerText}
-use Rattle.text.proofs.Printing.{status-room}
-use Rattle.text.proofs.print_answer.Statement.{statement}
-use Rattle.text.proofs.print_answer.Tie as tie
+use Rattle.lines.specs.Lines.{lines}
+use Rattle.lines.specs.Answer.{answerText}
+use Rattle.lines.proofs.Printing.{status-room}
+use Rattle.lines.proofs.print_answer.Statement.{statement}
+use Rattle.lines.proofs.print_answer.Tie as tie
 
 put-status-requires : tie.Need-put-status-requires
 put-status-requires c κs = search needs

@@ -1,14 +1,14 @@
--- `text::put_count` meets its contract: a key a line. Assumes nothing.
+-- `lines::put_count` meets its contract: a key a line. Assumes nothing.
 use Prim.Native.Nat.{ℕ, _+_, _≤_, _<_, zero-le}
 use native.Mathlib.Omega.{arith}
 use mathlib.Core.Path.{_≡_}
 use borrow.Author.Needs.{needs}
 use Rattle.laws.proofs.Ranges.{le-ne}
-use Rattle.text.specs.Lines.{lineOf}
-use Rattle.text.specs.Answer.{countField}
-use Rattle.text.proofs.Printing.{count-line-room}
-use Rattle.text.proofs.put_count.Statement.{statement}
-use Rattle.text.proofs.put_count.Tie as tie
+use Rattle.lines.specs.Lines.{lineOf}
+use Rattle.lines.specs.Answer.{countField}
+use Rattle.lines.proofs.Printing.{count-line-room}
+use Rattle.lines.proofs.put_count.Statement.{statement}
+use Rattle.lines.proofs.put_count.Tie as tie
 
 room : (a m : ℕ) {l : ℕ} → a + 34 ≤ m → l ≤ 34 → a + l ≤ m
 room a m h g = omega arith

@@ -1,4 +1,4 @@
--- `text::put_counts` meets its contract: the first k lines stand there. Assumes nothing.
+-- `lines::put_counts` meets its contract: the first k lines stand there. Assumes nothing.
 use Prim.Native.Nat.{_-_, _≤_}
 use native.Mathlib.Omega.{arith}
 use mathlib.Core.Path.{_≡_, sym}
@@ -8,12 +8,12 @@ use Rattle.laws.specs.Ranges.{each}
 use Rattle.laws.specs.Written.{Written}
 use Rattle.laws.proofs.Ranges.{each-none}
 use Rattle.laws.proofs.Written.{written-none, written-turn, written-done, written-room, written-length}
-use Rattle.text.specs.Lines.{Dec, lineOf}
-use Rattle.text.specs.Answer.{countForm, countField}
-use Rattle.text.proofs.Lines.{lines-each}
-use Rattle.text.proofs.Printing.{count-line-room}
-use Rattle.text.proofs.put_counts.Statement.{statement}
-use Rattle.text.proofs.put_counts.Tie as tie
+use Rattle.lines.specs.Lines.{Dec, lineOf}
+use Rattle.lines.specs.Answer.{countForm, countField}
+use Rattle.lines.proofs.Lines.{lines-each}
+use Rattle.lines.proofs.Printing.{count-line-room}
+use Rattle.lines.proofs.put_counts.Statement.{statement}
+use Rattle.lines.proofs.put_counts.Tie as tie
 
 abbrev Inv-loop : tie.InvT-loop
 Inv-loop out₀ at counts next₀ k₀ out next k = (k ≤ 11) × Written out₀ at (each k (λ i. lineOf (countField i) (getD counts i 0))) out next

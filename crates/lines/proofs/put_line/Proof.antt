@@ -1,11 +1,11 @@
--- `text::put_line` meets its contract. Assumes nothing.
+-- `lines::put_line` meets its contract. Assumes nothing.
 use native.Mathlib.Omega.{arith}
 use borrow.Author.Needs.{needs}
 use Rattle.laws.proofs.Written.{written-more, written-length}
-use Rattle.text.proofs.Lines.{dec-line-length}
-use Rattle.text.proofs.put_line.Statement.{statement}
-use Rattle.text.proofs.put_line.Tie as tie
-use Rattle.text.proofs.put_dec.Reads as put-dec-reads
+use Rattle.lines.proofs.Lines.{dec-line-length}
+use Rattle.lines.proofs.put_line.Statement.{statement}
+use Rattle.lines.proofs.put_line.Tie as tie
+use Rattle.lines.proofs.put_dec.Reads as put-dec-reads
 
 put-text-requires : tie.Need-put-text-requires
 put-text-requires c κs =

@@ -1,10 +1,10 @@
--- `text::put_status` meets its contract. Assumes nothing.
+-- `lines::put_status` meets its contract. Assumes nothing.
 use native.Mathlib.Omega.{arith}
 use borrow.Author.Needs.{needs}
-use Rattle.text.specs.Lines.{lineOf}
-use Rattle.text.proofs.Printing.{status-room}
-use Rattle.text.proofs.put_status.Statement.{statement}
-use Rattle.text.proofs.put_status.Tie as tie
+use Rattle.lines.specs.Lines.{lineOf}
+use Rattle.lines.proofs.Printing.{status-room}
+use Rattle.lines.proofs.put_status.Statement.{statement}
+use Rattle.lines.proofs.put_status.Tie as tie
 
 slice-aggregate-put-line : tie.Need-slice-aggregate-put-line
 slice-aggregate-put-line c = search needs

@@ -1,4 +1,4 @@
--- `text::put_text` meets its contract. Assumes nothing.
+-- `lines::put_text` meets its contract. Assumes nothing.
 use Prim.Native.Nat.{_-_, _≤_}
 use native.Mathlib.Omega.{arith}
 use borrow.Author.Needs.{needs}
@@ -6,8 +6,8 @@ use mathlib.Core.Path.{_≡_, refl}
 use lib.ListN.{length, take, length-set}
 use lib.Seq.{sets}
 use Rattle.laws.proofs.Written.{copy-turn, copy-done}
-use Rattle.text.proofs.put_text.Statement.{statement}
-use Rattle.text.proofs.put_text.Tie as tie
+use Rattle.lines.proofs.put_text.Statement.{statement}
+use Rattle.lines.proofs.put_text.Tie as tie
 
 abbrev Inv-loop : tie.InvT-loop
 Inv-loop out₀ at text k₀ out k = (k ≤ length text) × (out ≡ sets out₀ at (take k text)) × (length out ≡ length out₀)

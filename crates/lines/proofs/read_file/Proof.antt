@@ -1,20 +1,20 @@
--- `text::read_file` meets its contract: each way out is a law of the whole file. Assumes nothing.
+-- `lines::read_file` meets its contract: each way out is a law of the whole file. Assumes nothing.
 use native.Mathlib.Omega.{arith}
 use borrow.Author.Needs.{needs}
 use mathlib.Core.Path.{refl, sym, _∙_}
 use lib.ListN.{getD}
-use Rattle.text.specs.Lines.{lines, Fine}
-use Rattle.text.specs.Readers.{Reads}
-use Rattle.text.specs.CountFile.{headForm}
-use Rattle.text.proofs.Files.{count-le, first-small, second-small, no-head, bad-size, no-samples, more-follows, accept}
-use Rattle.text.proofs.read_file.Statement.{statement}
-use Rattle.text.proofs.read_file.Tie as tie
-use Rattle.text.proofs.read_file.Reads as reads
-use Rattle.text.proofs.read_file.Lts as lts
-use Rattle.text.proofs.read_head.Reads as read-head-reads
-use Rattle.text.proofs.read_samples.Reads as read-samples-reads
-use Rattle.text.proofs.refused.Reads as refused-reads
-use Rattle.text.proofs.sites_of.Reads as sites-of-reads
+use Rattle.lines.specs.Lines.{lines, Fine}
+use Rattle.lines.specs.Readers.{Reads}
+use Rattle.lines.specs.CountFile.{headForm}
+use Rattle.lines.proofs.Files.{count-le, first-small, second-small, no-head, bad-size, no-samples, more-follows, accept}
+use Rattle.lines.proofs.read_file.Statement.{statement}
+use Rattle.lines.proofs.read_file.Tie as tie
+use Rattle.lines.proofs.read_file.Reads as reads
+use Rattle.lines.proofs.read_file.Lts as lts
+use Rattle.lines.proofs.read_head.Reads as read-head-reads
+use Rattle.lines.proofs.read_samples.Reads as read-samples-reads
+use Rattle.lines.proofs.refused.Reads as refused-reads
+use Rattle.lines.proofs.sites_of.Reads as sites-of-reads
 
 -- the header that was read
 head-of : (k : tie.Then1) → Reads (lines headForm) (Fine headForm) (k .before .before .before .args .s .now) 0 (k .before .read-head .result .vals) (k .before .read-head .result .next)

@@ -1,4 +1,4 @@
--- `text::read_head` meets its contract: what has been read are the first k lines. Assumes nothing.
+-- `lines::read_head` meets its contract: what has been read are the first k lines. Assumes nothing.
 use Prim.Native.Nat.{ℕ, _-_}
 use native.Mathlib.Omega.{arith}
 use borrow.Author.Needs.{needs}
@@ -6,11 +6,11 @@ use mathlib.Core.Path.{_≡_, refl}
 use mathlib.Core.List.{List, []}
 use lib.ListN.{replicate, length, take}
 use lib.Seq.{take-all}
-use Rattle.text.specs.Lines.{Dec}
-use Rattle.text.specs.CountFile.{headForm, headField}
-use Rattle.text.proofs.Runs.{Filled, run-start, run-turn, run-bad, run-done}
-use Rattle.text.proofs.read_head.Statement.{statement}
-use Rattle.text.proofs.read_head.Tie as tie
+use Rattle.lines.specs.Lines.{Dec}
+use Rattle.lines.specs.CountFile.{headForm, headField}
+use Rattle.lines.proofs.Runs.{Filled, run-start, run-turn, run-bad, run-done}
+use Rattle.lines.proofs.read_head.Statement.{statement}
+use Rattle.lines.proofs.read_head.Tie as tie
 
 all : (l : List ℕ) → length l ≡ 11 → take 11 l ≡ l
 all l h = take-all 11 l (omega arith)

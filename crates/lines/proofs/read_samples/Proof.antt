@@ -1,14 +1,14 @@
--- `text::read_samples` meets its contract: what has been read are the first k lines. Assumes nothing.
+-- `lines::read_samples` meets its contract: what has been read are the first k lines. Assumes nothing.
 use Prim.Native.Nat.{_-_, _<_}
 use native.Mathlib.Omega.{arith}
 use borrow.Author.Needs.{needs}
 use mathlib.Core.Path.{_≡_}
 use lib.ListN.{replicate, length, length-replicate, getD-replicate}
-use Rattle.text.specs.Lines.{lineOf, okOf}
-use Rattle.text.specs.CountFile.{sample}
-use Rattle.text.proofs.Runs.{Filled, run-start, run-turn, run-bad, run-done}
-use Rattle.text.proofs.read_samples.Statement.{statement}
-use Rattle.text.proofs.read_samples.Tie as tie
+use Rattle.lines.specs.Lines.{lineOf, okOf}
+use Rattle.lines.specs.CountFile.{sample}
+use Rattle.lines.proofs.Runs.{Filled, run-start, run-turn, run-bad, run-done}
+use Rattle.lines.proofs.read_samples.Statement.{statement}
+use Rattle.lines.proofs.read_samples.Tie as tie
 
 abbrev Inv-loop : tie.InvT-loop
 Inv-loop s from n out₀ at₀ k₀ t9 out at k = Filled (replicate n sample) s from out₀ out at k

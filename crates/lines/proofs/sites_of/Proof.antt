@@ -1,11 +1,11 @@
--- `text::sites_of` meets its contract. Assumes nothing.
+-- `lines::sites_of` meets its contract. Assumes nothing.
 use Prim.Native.Nat.{_*_}
 use native.Mathlib.Nat.{mul-le-mul, le-of-lt, lt-of-le-of-lt, zero-mul, mul-zero, mul-comm}
 use mathlib.Core.Path.{sym}
 use lib.Dec.{lit<}
-use Rattle.text.proofs.Files.{count-zero, count-large, count-small, over-left}
-use Rattle.text.proofs.sites_of.Statement.{statement}
-use Rattle.text.proofs.sites_of.Tie as tie
+use Rattle.lines.proofs.Files.{count-zero, count-large, count-small, over-left}
+use Rattle.lines.proofs.sites_of.Statement.{statement}
+use Rattle.lines.proofs.sites_of.Tie as tie
 
 mul-a : tie.Need-mul-a
 mul-a c = let a = c .args in record { fits = lt-of-le-of-lt (mul-le-mul (le-of-lt (c .pre .0)) (le-of-lt (c .pre .1))) (lit< tt) }

@@ -1,9 +1,9 @@
--- `le::get4` meets its contract. Assumes nothing.
+-- `little_endian::get4` meets its contract. Assumes nothing.
 use native.Mathlib.Omega.{arith}
-use Rattle.le.proofs.Bytes.{number-four}
+use Rattle.little_endian.proofs.Bytes.{number-four}
 use borrow.Author.Needs.{needs}
-use Rattle.le.proofs.get4.Statement.{statement}
-use Rattle.le.proofs.get4.Tie as tie
+use Rattle.little_endian.proofs.get4.Statement.{statement}
+use Rattle.little_endian.proofs.get4.Tie as tie
 
 shared-slice-read-wide : tie.Need-shared-slice-read-wide
 shared-slice-read-wide c = search needs

@@ -1,9 +1,9 @@
--- `le::get8` meets its contract. Assumes nothing.
+-- `little_endian::get8` meets its contract. Assumes nothing.
 use native.Mathlib.Omega.{arith}
-use Rattle.le.proofs.Bytes.{number-eight}
+use Rattle.little_endian.proofs.Bytes.{number-eight}
 use borrow.Author.Needs.{needs}
-use Rattle.le.proofs.get8.Statement.{statement}
-use Rattle.le.proofs.get8.Tie as tie
+use Rattle.little_endian.proofs.get8.Statement.{statement}
+use Rattle.little_endian.proofs.get8.Tie as tie
 
 get4-requires : tie.Need-get4-requires
 get4-requires c κs = search needs

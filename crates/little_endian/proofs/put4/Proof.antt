@@ -1,10 +1,10 @@
--- `le::put4` meets its contract. Assumes nothing.
-use Rattle.le.proofs.Bytes.{put-four}
+-- `little_endian::put4` meets its contract. Assumes nothing.
+use Rattle.little_endian.proofs.Bytes.{put-four}
 use native.Mathlib.Omega.{arith}
 use lib.ListN.{length-set}
 use borrow.Author.Needs.{needs}
-use Rattle.le.proofs.put4.Statement.{statement}
-use Rattle.le.proofs.put4.Tie as tie
+use Rattle.little_endian.proofs.put4.Statement.{statement}
+use Rattle.little_endian.proofs.put4.Tie as tie
 
 low-requires : tie.Need-low-requires
 low-requires c κs = search needs

@@ -1,10 +1,10 @@
--- `le::put8` meets its contract. Assumes nothing.
-use Rattle.le.proofs.Bytes.{put-eight, bytes-length}
+-- `little_endian::put8` meets its contract. Assumes nothing.
+use Rattle.little_endian.proofs.Bytes.{put-eight, bytes-length}
 use native.Mathlib.Omega.{arith}
 use Rattle.laws.proofs.Written.{written-length}
 use borrow.Author.Needs.{needs}
-use Rattle.le.proofs.put8.Statement.{statement}
-use Rattle.le.proofs.put8.Tie as tie
+use Rattle.little_endian.proofs.put8.Statement.{statement}
+use Rattle.little_endian.proofs.put8.Tie as tie
 
 put4-requires : tie.Need-put4-requires
 put4-requires c κs = search needs

@@ -1,11 +1,11 @@
--- `tets::case_at` meets its contract. Assumes nothing.
+-- `march::case_at` meets its contract. Assumes nothing.
 use native.Mathlib.Omega.{arith}
 use lib.Dec.{lit<}
-use Rattle.tets.specs.Samples.{caseOn}
-use Rattle.tets.proofs.Cases.{corner-by}
+use Rattle.march.specs.Samples.{caseOn}
+use Rattle.march.proofs.Cases.{corner-by}
 use borrow.Author.Needs.{needs}
-use Rattle.tets.proofs.case_at.Statement.{statement}
-use Rattle.tets.proofs.case_at.Tie as tie
+use Rattle.march.proofs.case_at.Statement.{statement}
+use Rattle.march.proofs.case_at.Tie as tie
 
 tet-corner-requires : tie.Need-tet-corner-requires
 tet-corner-requires c κs = search needs

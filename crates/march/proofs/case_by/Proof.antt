@@ -1,9 +1,9 @@
--- `tets::case_by` meets its contract. Assumes nothing.
+-- `march::case_by` meets its contract. Assumes nothing.
 use borrow.Author.Tests.{lt-ltb, le-ltb}
-use Rattle.tets.specs.Samples.{caseBy}
+use Rattle.march.specs.Samples.{caseBy}
 use borrow.Author.Needs.{needs}
-use Rattle.tets.proofs.case_by.Statement.{statement}
-use Rattle.tets.proofs.case_by.Tie as tie
+use Rattle.march.proofs.case_by.Statement.{statement}
+use Rattle.march.proofs.case_by.Tie as tie
 
 mul-x : tie.Need-mul-x
 mul-x c = search needs

@@ -1,4 +1,4 @@
--- `tets::code_sum` meets its contract. Assumes nothing.
+-- `march::code_sum` meets its contract. Assumes nothing.
 use borrow.Author.Needs.{needs}
 use mathlib.Core.Path.{_≡_, refl, sym, ap, _∙_}
 use Prim.Native.Nat.{ℕ, _*_, _≤_, _-_}
@@ -7,9 +7,9 @@ use lib.ListN.{getD}
 use denote.Ref.{now}
 use Rattle.laws.specs.Ranges as ranges
 use Rattle.laws.proofs.Sums.{sum-none, sum-turn}
-use Rattle.tets.specs.Samples.{codeSum}
-use Rattle.tets.proofs.code_sum.Statement.{statement}
-use Rattle.tets.proofs.code_sum.Tie as tie
+use Rattle.march.specs.Samples.{codeSum}
+use Rattle.march.proofs.code_sum.Statement.{statement}
+use Rattle.march.proofs.code_sum.Tie as tie
 
 abbrev Inv-loop : tie.InvT-loop
 Inv-loop codes sum₀ c₀ sum c = (c ≤ 8) × (sum ≡ ranges.sum c (λ (i : ℕ). getD codes i 0)) × (sum ≤ 16 * c)

@@ -1,9 +1,9 @@
--- `tets::column` meets its contract. Assumes nothing.
+-- `march::column` meets its contract. Assumes nothing.
 use mathlib.Core.List.{[], _∷_}
-use Rattle.tets.specs.Samples.{columnAt}
+use Rattle.march.specs.Samples.{columnAt}
 use borrow.Author.Needs.{needs}
-use Rattle.tets.proofs.column.Statement.{statement}
-use Rattle.tets.proofs.column.Tie as tie
+use Rattle.march.proofs.column.Statement.{statement}
+use Rattle.march.proofs.column.Tie as tie
 
 mul-value-code : tie.Need-mul-value-code
 mul-value-code c = search needs

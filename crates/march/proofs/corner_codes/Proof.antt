@@ -1,4 +1,4 @@
--- `tets::corner_codes` meets its contract. Assumes nothing.
+-- `march::corner_codes` meets its contract. Assumes nothing.
 use borrow.Author.Needs.{needs}
 use mathlib.Core.Path.{_≡_}
 use mathlib.Core.List.{[], _∷_}
@@ -10,9 +10,9 @@ use Rattle.laws.proofs.Ranges.{each-none}
 use Rattle.laws.proofs.Written.{written-none, written-one, written-turn, written-done, written-length, written-whole}
 use Rattle.tables.specs.Edges.{du, dv, dw}
 use Rattle.lattice.specs.Sites.{step}
-use Rattle.tets.specs.Samples.{sampleAt, codeOf, codesOf}
-use Rattle.tets.proofs.corner_codes.Statement.{statement}
-use Rattle.tets.proofs.corner_codes.Tie as tie
+use Rattle.march.specs.Samples.{sampleAt, codeOf, codesOf}
+use Rattle.march.proofs.corner_codes.Statement.{statement}
+use Rattle.march.proofs.corner_codes.Tie as tie
 
 abbrev Inv-loop : tie.InvT-loop
 Inv-loop s n u v h r₀ c₀ r c = (c ≤ 8) × Written r₀ 0 (each c (λ (c : ℕ). codeOf (sampleAt n s (step (du c) u) (step (dv c) v) (step (dw c) 0)) h ∷ [])) r c

@@ -1,9 +1,9 @@
--- `tets::corner_sample` meets its contract. Assumes nothing.
+-- `march::corner_sample` meets its contract. Assumes nothing.
 use mathlib.Core.Path.{_∙_}
-use Rattle.tets.proofs.Places.{corner-view}
+use Rattle.march.proofs.Places.{corner-view}
 use borrow.Author.Needs.{needs}
-use Rattle.tets.proofs.corner_sample.Statement.{statement}
-use Rattle.tets.proofs.corner_sample.Tie as tie
+use Rattle.march.proofs.corner_sample.Statement.{statement}
+use Rattle.march.proofs.corner_sample.Tie as tie
 
 add-x : tie.Need-add-x
 add-x c = search needs

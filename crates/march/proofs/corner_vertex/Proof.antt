@@ -1,12 +1,12 @@
--- `tets::corner_vertex` meets its contract. Assumes nothing.
+-- `march::corner_vertex` meets its contract. Assumes nothing.
 use Prim.Native.Nat.{_+_, _*_, _<_}
 use native.Mathlib.Omega.{arith}
 use Rattle.tables.proofs.Cases.{mt-edges}
 use Rattle.tables.proofs.Tets.{tet-owned}
-use Rattle.tets.specs.Loop.{cornerAt}
+use Rattle.march.specs.Loop.{cornerAt}
 use borrow.Author.Needs.{needs}
-use Rattle.tets.proofs.corner_vertex.Statement.{statement}
-use Rattle.tets.proofs.corner_vertex.Tie as tie
+use Rattle.march.proofs.corner_vertex.Statement.{statement}
+use Rattle.march.proofs.corner_vertex.Tie as tie
 
 mul-mt-edge : tie.Need-mul-mt-edge
 mul-mt-edge c = search needs

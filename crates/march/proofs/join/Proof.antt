@@ -1,9 +1,9 @@
--- `tets::join` meets its contract. Assumes nothing.
+-- `march::join` meets its contract. Assumes nothing.
 use mathlib.Core.Path.{refl}
-use Rattle.tets.specs.Samples.{joined}
+use Rattle.march.specs.Samples.{joined}
 use borrow.Author.Needs.{needs}
-use Rattle.tets.proofs.join.Statement.{statement}
-use Rattle.tets.proofs.join.Tie as tie
+use Rattle.march.proofs.join.Statement.{statement}
+use Rattle.march.proofs.join.Tie as tie
 
 element-copy-out-t5 : tie.Need-element-copy-out-t5
 element-copy-out-t5 c = search needs

@@ -1,14 +1,14 @@
--- `tets::look_up` meets its contract. Assumes nothing.
+-- `march::look_up` meets its contract. Assumes nothing.
 use Prim.Native.Nat.{_/_}
 use mathlib.Core.Path.{refl}
 use native.Mathlib.Omega.{arith}
 use Rattle.tables.specs.Edges.{du, dv, dw}
-use Rattle.tets.specs.Loop.{lookUp}
-use Rattle.tets.proofs.Flat.{slot-in}
-use Rattle.tets.proofs.Places.{steps-le}
+use Rattle.march.specs.Loop.{lookUp}
+use Rattle.march.proofs.Flat.{slot-in}
+use Rattle.march.proofs.Places.{steps-le}
 use borrow.Author.Needs.{needs}
-use Rattle.tets.proofs.look_up.Statement.{statement}
-use Rattle.tets.proofs.look_up.Tie as tie
+use Rattle.march.proofs.look_up.Statement.{statement}
+use Rattle.march.proofs.look_up.Tie as tie
 
 add-owner : tie.Need-add-owner
 add-owner c = search needs

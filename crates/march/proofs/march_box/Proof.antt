@@ -1,4 +1,4 @@
--- `tets::march_box` meets its contract. Assumes nothing.
+-- `march::march_box` meets its contract. Assumes nothing.
 use borrow.Author.Needs.{needs}
 use Prim.Native.Nat.{_*_, _≤_, _-_}
 use native.Mathlib.Omega.{arith}
@@ -9,10 +9,10 @@ use Rattle.laws.proofs.Ranges.{each-none}
 use Rattle.laws.proofs.Written.{written-none, written-turn, written-done, written-length, written-room}
 use Rattle.laws.proofs.Tails.{tail-is}
 use Rattle.lattice.proofs.Sites.{layer-most}
-use Rattle.tets.specs.Lists.{fieldOf}
-use Rattle.tets.proofs.Walk.{LayerRoom, layer-room, layer-lent, tailFlat, tail-le, box-layers, box-room, third}
-use Rattle.tets.proofs.march_box.Statement.{statement}
-use Rattle.tets.proofs.march_box.Tie as tie
+use Rattle.march.specs.Lists.{fieldOf}
+use Rattle.march.proofs.Walk.{LayerRoom, layer-room, layer-lent, tailFlat, tail-le, box-layers, box-room, third}
+use Rattle.march.proofs.march_box.Statement.{statement}
+use Rattle.march.proofs.march_box.Tie as tie
 
 abbrev Inv-loop : tie.InvT-loop
 Inv-loop samples edges tris₀ h nu nv nn m next₀ w₀ tris next w = (w ≤ m) × Written tris₀ 0 (each w (tailFlat nu nv samples h edges)) tris next

@@ -1,14 +1,14 @@
--- `tets::march_cell` meets its contract. Assumes nothing.
+-- `march::march_cell` meets its contract. Assumes nothing.
 use mathlib.Core.Path.{_≡_, sym, ap, _∙_}
 use native.Mathlib.Omega.{arith}
 use denote.Ref.{now}
-use Rattle.tets.specs.Samples.{codeSum, codesOf}
-use Rattle.tets.proofs.Cases.{codes-coded}
-use Rattle.tets.proofs.Walk.{cell-room, cell-in, cell-tris, outside-written, inside-written}
-use Rattle.tets.proofs.Columns.{right-room, right-is, both-four, cell-codes}
+use Rattle.march.specs.Samples.{codeSum, codesOf}
+use Rattle.march.proofs.Cases.{codes-coded}
+use Rattle.march.proofs.Walk.{cell-room, cell-in, cell-tris, outside-written, inside-written}
+use Rattle.march.proofs.Columns.{right-room, right-is, both-four, cell-codes}
 use borrow.Author.Needs.{needs}
-use Rattle.tets.proofs.march_cell.Statement.{statement}
-use Rattle.tets.proofs.march_cell.Tie as tie
+use Rattle.march.proofs.march_cell.Statement.{statement}
+use Rattle.march.proofs.march_cell.Tie as tie
 
 mul-nn : tie.Need-mul-nn
 mul-nn c = let s = c .before .before .before .before in omega (arith, cell-room (s .args .n) (now (s .args .s)) (now (s .args .edges)) (s .args .u) (s .args .v) (s .pre .0 .0) (s .pre .0 .2))

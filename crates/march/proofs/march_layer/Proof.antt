@@ -1,4 +1,4 @@
--- `tets::march_layer` meets its contract. Assumes nothing.
+-- `march::march_layer` meets its contract. Assumes nothing.
 use borrow.Author.Needs.{needs}
 use Prim.Native.Nat.{ℕ, _*_, _≤_, _-_}
 use native.Mathlib.Omega.{arith}
@@ -7,11 +7,11 @@ use Rattle.laws.specs.Ranges.{each}
 use Rattle.laws.specs.Written.{Written}
 use Rattle.laws.proofs.Ranges.{each-none}
 use Rattle.laws.proofs.Written.{written-none, written-turn, written-done, written-length, written-room}
-use Rattle.tets.specs.Lists.{fieldOf}
-use Rattle.tets.specs.Loop.{rowFlat}
-use Rattle.tets.proofs.Walk.{row-flat-le, slab-rows}
-use Rattle.tets.proofs.march_layer.Statement.{statement}
-use Rattle.tets.proofs.march_layer.Tie as tie
+use Rattle.march.specs.Lists.{fieldOf}
+use Rattle.march.specs.Loop.{rowFlat}
+use Rattle.march.proofs.Walk.{row-flat-le, slab-rows}
+use Rattle.march.proofs.march_layer.Statement.{statement}
+use Rattle.march.proofs.march_layer.Tie as tie
 
 abbrev Inv-loop : tie.InvT-loop
 Inv-loop s edges tris₀ at n h next₀ m v₀ tris next v = (v ≤ m) × Written tris₀ at (each v (λ (v : ℕ). rowFlat (fieldOf n s h edges) v)) tris next

@@ -1,4 +1,4 @@
--- `tets::march_row` meets its contract. Assumes nothing.
+-- `march::march_row` meets its contract. Assumes nothing.
 use borrow.Author.Needs.{needs}
 use mathlib.Core.Path.{_≡_, ap, _∙_}
 use Prim.Native.Nat.{ℕ, _+_, _*_, _≤_, _-_}
@@ -9,14 +9,14 @@ use Rattle.laws.specs.Written.{Written}
 use Rattle.laws.specs.Triangles.{flat}
 use Rattle.laws.proofs.Ranges.{each-none}
 use Rattle.laws.proofs.Written.{written-none, written-turn, written-done, written-length, written-room}
-use Rattle.tets.specs.March.{siteTris}
-use Rattle.tets.specs.Lists.{fieldOf}
-use Rattle.tets.specs.Samples.{columnAt, columnOf}
-use Rattle.tets.specs.Loop.{rowFlat}
-use Rattle.tets.proofs.Walk.{cell-room, site-flat-le}
-use Rattle.tets.proofs.Columns.{column-is, column-room}
-use Rattle.tets.proofs.march_row.Statement.{statement}
-use Rattle.tets.proofs.march_row.Tie as tie
+use Rattle.march.specs.March.{siteTris}
+use Rattle.march.specs.Lists.{fieldOf}
+use Rattle.march.specs.Samples.{columnAt, columnOf}
+use Rattle.march.specs.Loop.{rowFlat}
+use Rattle.march.proofs.Walk.{cell-room, site-flat-le}
+use Rattle.march.proofs.Columns.{column-is, column-room}
+use Rattle.march.proofs.march_row.Statement.{statement}
+use Rattle.march.proofs.march_row.Tie as tie
 
 abbrev Inv-loop : tie.InvT-loop
 Inv-loop s edges tris₀ at n v h next₀ nu m left₀ u₀ tris next left u =

@@ -1,4 +1,4 @@
--- `tets::march_tet` meets its contract: the triangles of the rows passed are written, and in the inner loop the corners passed are there. Assumes nothing.
+-- `march::march_tet` meets its contract: the triangles of the rows passed are written, and in the inner loop the corners passed are there. Assumes nothing.
 use borrow.Author.Needs.{needs}
 use mathlib.Core.Path.{_≡_, refl, sym, _∙_}
 use mathlib.Core.List.{List, [], _∷_}
@@ -13,11 +13,11 @@ use Rattle.laws.specs.Written.{Written}
 use Rattle.laws.proofs.Ranges.{each-none, each-le}
 use Rattle.laws.proofs.Written.{written-none, written-turn, written-done, written-length}
 use Rattle.tables.proofs.Cases.{mt-two}
-use Rattle.tets.specs.March.{none}
-use Rattle.tets.specs.Loop.{shown, lookUp, cornerAt, triAt, tetFlat}
-use Rattle.tets.proofs.Flat.{twice, Has, has-none, has-more, tri-dropped, tri-has, shown-le}
-use Rattle.tets.proofs.march_tet.Statement.{statement}
-use Rattle.tets.proofs.march_tet.Tie as tie
+use Rattle.march.specs.March.{none}
+use Rattle.march.specs.Loop.{shown, lookUp, cornerAt, triAt, tetFlat}
+use Rattle.march.proofs.Flat.{twice, Has, has-none, has-more, tri-dropped, tri-has, shown-le}
+use Rattle.march.proofs.march_tet.Statement.{statement}
+use Rattle.march.proofs.march_tet.Tie as tie
 
 abbrev Inv-loop : tie.InvT-loop
 Inv-loop edges tris at i nu nn t case n count k₀ v₀ c₀ k v c = (c ≤ 3) × (k ≡ k₀) × (length v ≡ 3) × Has (cornerAt (lookUp edges i nu nn) t case k₀) v c

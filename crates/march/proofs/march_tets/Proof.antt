@@ -1,4 +1,4 @@
--- `tets::march_tets` meets its contract. Assumes nothing.
+-- `march::march_tets` meets its contract. Assumes nothing.
 use borrow.Author.Needs.{needs}
 use Prim.Native.Nat.{ℕ, _≤_, _-_}
 use native.Mathlib.Omega.{arith}
@@ -7,12 +7,12 @@ use Rattle.laws.specs.Ranges.{each}
 use Rattle.laws.specs.Written.{Written}
 use Rattle.laws.proofs.Ranges.{each-none}
 use Rattle.laws.proofs.Written.{written-none, written-turn, written-done, written-length, written-room}
-use Rattle.tets.specs.Samples.{caseOn}
-use Rattle.tets.specs.Loop.{lookUp, tetFlat, cellFlat}
-use Rattle.tets.proofs.Cases.{on-lt}
-use Rattle.tets.proofs.Flat.{tet-le}
-use Rattle.tets.proofs.march_tets.Statement.{statement}
-use Rattle.tets.proofs.march_tets.Tie as tie
+use Rattle.march.specs.Samples.{caseOn}
+use Rattle.march.specs.Loop.{lookUp, tetFlat, cellFlat}
+use Rattle.march.proofs.Cases.{on-lt}
+use Rattle.march.proofs.Flat.{tet-le}
+use Rattle.march.proofs.march_tets.Statement.{statement}
+use Rattle.march.proofs.march_tets.Tie as tie
 
 abbrev Inv-loop : tie.InvT-loop
 Inv-loop edges tris₀ at i nu nn codes n₀ t₀ tris n t = (t ≤ 6) × Written tris₀ at (each t (λ (t : ℕ). tetFlat (lookUp edges i nu nn) t (caseOn codes t))) tris n

@@ -1,12 +1,12 @@
--- `tets::put3` meets its contract. Assumes nothing.
+-- `march::put3` meets its contract. Assumes nothing.
 use borrow.Author.Needs.{needs}
 use mathlib.Core.Path.{_≡_, refl}
 use Prim.Native.Nat.{_+_, suc}
 use native.Mathlib.Numerals.{add-one}
 use native.Mathlib.Omega.{arith}
 use lib.ListN.{length-set}
-use Rattle.tets.proofs.put3.Statement.{statement}
-use Rattle.tets.proofs.put3.Tie as tie
+use Rattle.march.proofs.put3.Statement.{statement}
+use Rattle.march.proofs.put3.Tie as tie
 
 mul-tris : tie.Need-mul-tris
 mul-tris c = search needs

@@ -1,7 +1,7 @@
--- `tets::repeats` meets its contract. Assumes nothing.
+-- `march::repeats` meets its contract. Assumes nothing.
 use borrow.Author.Tests.{eq-eqb, ne-eqb}
-use Rattle.tets.proofs.repeats.Statement.{statement}
-use Rattle.tets.proofs.repeats.Tie as tie
+use Rattle.march.proofs.repeats.Statement.{statement}
+use Rattle.march.proofs.repeats.Tie as tie
 
 returns : tie.Need-returns
 returns c = rw (eq-eqb _ _ (c .if1 .taken))

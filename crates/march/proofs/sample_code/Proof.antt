@@ -1,8 +1,8 @@
--- `tets::sample_code` meets its contract. Assumes nothing.
-use Rattle.tets.specs.Samples.{code, codeOf, valueCode}
+-- `march::sample_code` meets its contract. Assumes nothing.
+use Rattle.march.specs.Samples.{code, codeOf, valueCode}
 use borrow.Author.Needs.{needs}
-use Rattle.tets.proofs.sample_code.Statement.{statement}
-use Rattle.tets.proofs.sample_code.Tie as tie
+use Rattle.march.proofs.sample_code.Statement.{statement}
+use Rattle.march.proofs.sample_code.Tie as tie
 
 enum-told : tie.Need-enum-told
 enum-told c = search needs

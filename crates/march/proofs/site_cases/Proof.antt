@@ -1,13 +1,13 @@
--- `tets::site_cases` meets its contract. Assumes nothing.
+-- `march::site_cases` meets its contract. Assumes nothing.
 use mathlib.Core.Path.{_∙_}
 use mathlib.Core.List.{[]}
 use native.Mathlib.Omega.{arith}
 use denote.Ref.{now}
 use Rattle.laws.proofs.Tails.{tail-is}
-use Rattle.tets.proofs.Walk.{site-room, site-placed, tail-cases}
+use Rattle.march.proofs.Walk.{site-room, site-placed, tail-cases}
 use borrow.Author.Needs.{needs}
-use Rattle.tets.proofs.site_cases.Statement.{statement}
-use Rattle.tets.proofs.site_cases.Tie as tie
+use Rattle.march.proofs.site_cases.Statement.{statement}
+use Rattle.march.proofs.site_cases.Tie as tie
 
 sub-nw : tie.Need-sub-nw
 sub-nw c = search needs

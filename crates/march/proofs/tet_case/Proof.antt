@@ -1,9 +1,9 @@
--- `tets::tet_case` meets its contract. Assumes nothing.
+-- `march::tet_case` meets its contract. Assumes nothing.
 use mathlib.Core.Path.{_∙_}
-use Rattle.tets.proofs.Cases.{codeOf-le, case-samples}
+use Rattle.march.proofs.Cases.{codeOf-le, case-samples}
 use borrow.Author.Needs.{needs}
-use Rattle.tets.proofs.tet_case.Statement.{statement}
-use Rattle.tets.proofs.tet_case.Tie as tie
+use Rattle.march.proofs.tet_case.Statement.{statement}
+use Rattle.march.proofs.tet_case.Tie as tie
 
 sample-code-requires : tie.Need-sample-code-requires
 sample-code-requires c κs = search needs

@@ -1,4 +1,4 @@
--- `tets::tetrahedron_cases` meets its contract. Assumes nothing.
+-- `march::tetrahedron_cases` meets its contract. Assumes nothing.
 use borrow.Author.Needs.{needs}
 use mathlib.Core.Path.{_≡_, ap, _∙_}
 use mathlib.Core.List.{List, [], _∷_}
@@ -9,11 +9,11 @@ use Rattle.laws.specs.Ranges.{each}
 use Rattle.laws.specs.Written.{Written}
 use Rattle.laws.proofs.Ranges.{each-none, each-same}
 use Rattle.laws.proofs.Written.{written-none, written-one, written-turn, written-done, written-length, written-whole}
-use Rattle.tets.specs.March.{casesAt}
-use Rattle.tets.specs.Samples.{caseOn}
-use Rattle.tets.proofs.Cases.{codes-coded, case-is}
-use Rattle.tets.proofs.tetrahedron_cases.Statement.{statement}
-use Rattle.tets.proofs.tetrahedron_cases.Tie as tie
+use Rattle.march.specs.March.{casesAt}
+use Rattle.march.specs.Samples.{caseOn}
+use Rattle.march.proofs.Cases.{codes-coded, case-is}
+use Rattle.march.proofs.tetrahedron_cases.Statement.{statement}
+use Rattle.march.proofs.tetrahedron_cases.Tie as tie
 
 abbrev Inv-loop : tie.InvT-loop
 Inv-loop s u v h codes r₀ t₀ r t = (t ≤ 6) × Written r₀ 0 (each t (λ (t : ℕ). caseOn codes t ∷ [])) r t

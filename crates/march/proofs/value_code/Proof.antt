@@ -1,9 +1,9 @@
--- `tets::value_code` meets its contract. Assumes nothing.
+-- `march::value_code` meets its contract. Assumes nothing.
 use Rattle.laws.specs.Bools.{bit}
-use Rattle.tets.specs.Samples.{code, codeOf, valueCode}
+use Rattle.march.specs.Samples.{code, codeOf, valueCode}
 use borrow.Author.Needs.{needs}
-use Rattle.tets.proofs.value_code.Statement.{statement}
-use Rattle.tets.proofs.value_code.Tie as tie
+use Rattle.march.proofs.value_code.Statement.{statement}
+use Rattle.march.proofs.value_code.Tie as tie
 
 is-finite-requires : tie.Need-is-finite-requires
 is-finite-requires c κs = search needs

@@ -7,7 +7,7 @@ use mathlib.Core.List.{List}
 use Prim.Native.Nat.{ℕ, _-_, _≤_}
 use native.Mathlib.Nat.{le-antisymm}
 use lib.ListN.{length, set, length-set}
-use Rattle.marks.specs.Loops.{zeroed}
+use Rattle.marks.specs.Inner.Loops.{zeroed}
 use Rattle.marks.proofs.clear.Statement.{statement}
 use Rattle.marks.proofs.clear.Tie as tie
 

@@ -7,7 +7,7 @@ use Rattle.laws.proofs.Tails.{tail-is}
 use Rattle.lattice.proofs.Sites.{layer-most}
 use Rattle.laws.specs.Ranges.{sum}
 use Rattle.laws.proofs.Sums.{sum-none, sum-turn, sum-done, sum-room}
-use Rattle.marks.specs.Loops.{fromLayer, crossLayer}
+use Rattle.marks.specs.Inner.Loops.{fromLayer, crossLayer}
 use Rattle.marks.proofs.Rooms.{layer-sampled, layer-count-most, layers-count, Begins, begins}
 use Rattle.marks.proofs.count_crossed.Statement.{statement}
 use Rattle.marks.proofs.count_crossed.Tie as tie

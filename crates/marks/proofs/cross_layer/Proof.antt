@@ -4,7 +4,7 @@ use mathlib.Core.Path.{_≡_, sym, _∙_}
 use Prim.Native.Nat.{_-_, _≤_}
 use Rattle.laws.specs.Ranges.{sum}
 use Rattle.laws.proofs.Sums.{sum-none, sum-turn, sum-done, sum-room}
-use Rattle.marks.specs.Loops.{crossRow}
+use Rattle.marks.specs.Inner.Loops.{crossRow}
 use Rattle.marks.proofs.Rooms.{row-most, cross-rows}
 use Rattle.marks.proofs.cross_layer.Statement.{statement}
 use Rattle.marks.proofs.cross_layer.Tie as tie

@@ -4,7 +4,7 @@ use mathlib.Core.Path.{_≡_, sym}
 use Prim.Native.Nat.{_+_, _*_, _-_, _≤_}
 use Rattle.laws.specs.Ranges.{sum}
 use Rattle.laws.proofs.Sums.{sum-none, sum-turn, sum-done, sum-room}
-use Rattle.marks.specs.Loops.{crossSite, crossRow}
+use Rattle.marks.specs.Inner.Loops.{crossSite, crossRow}
 use Rattle.marks.proofs.Rooms.{row-site, row-box, site-most}
 use Rattle.marks.proofs.cross_row.Statement.{statement}
 use Rattle.marks.proofs.cross_row.Tie as tie

@@ -7,7 +7,7 @@ use Rattle.laws.specs.Ranges.{sum}
 use Rattle.laws.proofs.Bools.{bit-le}
 use Rattle.laws.proofs.Sums.{sum-none, sum-turn, sum-done, sum-room}
 use Rattle.marks.specs.Marks.{isCrossed}
-use Rattle.marks.specs.Loops.{crossSite}
+use Rattle.marks.specs.Inner.Loops.{crossSite}
 use Rattle.marks.proofs.cross_site.Statement.{statement}
 use Rattle.marks.proofs.cross_site.Tie as tie
 

@@ -1,6 +1,6 @@
 -- `marks::mark_crossing` meets its contract. Assumes nothing.
 use lib.Ieee.{ofBits}
-use Rattle.marks.specs.Loops.{markCrossing}
+use Rattle.marks.specs.Inner.Loops.{markCrossing}
 use borrow.Author.Needs.{needs}
 use Rattle.marks.proofs.mark_crossing.Statement.{statement}
 use Rattle.marks.proofs.mark_crossing.Tie as tie

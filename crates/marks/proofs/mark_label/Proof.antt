@@ -2,9 +2,9 @@
 use native.Mathlib.Omega.{arith}
 use mathlib.Core.Path.{sym, ap, _∙_}
 use Prim.Native.Nat.{ℕ}
-use Rattle.sides.specs.declared.Crossing.{Crossing}
+use Rattle.samples.specs.declared.Crossing.{Crossing}
 use Rattle.lattice.specs.Across.{acrossOf}
-use Rattle.marks.specs.Loops.{markCrossing}
+use Rattle.marks.specs.Inner.Loops.{markCrossing}
 use Rattle.marks.proofs.Rooms.{Ends, ends, room-sampled, label-none, label-some}
 use borrow.Author.Needs.{needs}
 use Rattle.marks.proofs.mark_label.Statement.{statement}

@@ -6,7 +6,7 @@ use Prim.Native.Nat.{_-_, _≤_}
 use lib.ListN.{length}
 use Rattle.laws.specs.Ranges.{fold}
 use Rattle.laws.proofs.Ranges.{fold-none, fold-turn, fold-done}
-use Rattle.marks.specs.Loops.{markRow}
+use Rattle.marks.specs.Inner.Loops.{markRow}
 use Rattle.marks.proofs.Rooms.{room-kept, rows-are}
 use Rattle.marks.proofs.mark_layer.Statement.{statement}
 use Rattle.marks.proofs.mark_layer.Tie as tie

@@ -10,7 +10,7 @@ use Rattle.laws.proofs.Tails.{tail-is, tail-back}
 use Rattle.lattice.proofs.Sites.{layer-most}
 use Rattle.laws.specs.Ranges.{fold}
 use Rattle.laws.proofs.Ranges.{fold-none, fold-turn, fold-done}
-use Rattle.marks.specs.Loops.{layerTurn, markLayers}
+use Rattle.marks.specs.Inner.Loops.{layerTurn, markLayers}
 use Rattle.marks.proofs.Rooms.{room-kept, layer-room, Begins, begins}
 use Rattle.marks.proofs.mark_layers.Statement.{statement}
 use Rattle.marks.proofs.mark_layers.Tie as tie

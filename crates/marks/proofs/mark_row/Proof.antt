@@ -6,7 +6,7 @@ use Prim.Native.Nat.{_+_, _*_, _-_, _≤_}
 use lib.ListN.{length}
 use Rattle.laws.specs.Ranges.{fold}
 use Rattle.laws.proofs.Ranges.{fold-none, fold-turn, fold-done}
-use Rattle.marks.specs.Loops.{markSite, markRow}
+use Rattle.marks.specs.Inner.Loops.{markSite, markRow}
 use Rattle.marks.proofs.Rooms.{room-kept, row-site, row-box}
 use Rattle.marks.proofs.mark_row.Statement.{statement}
 use Rattle.marks.proofs.mark_row.Tie as tie

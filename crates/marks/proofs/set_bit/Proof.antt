@@ -3,7 +3,7 @@ use Prim.Native.Nat.{_<_}
 use native.Mathlib.Nat.{one-mul, mod-eq-of-lt}
 use native.Mathlib.Omega.{arith}
 use lib.Pow.{pow-lt}
-use Rattle.marks.specs.Loops.{setBit}
+use Rattle.marks.specs.Inner.Loops.{setBit}
 use borrow.Author.Needs.{needs}
 use Rattle.marks.proofs.set_bit.Statement.{statement}
 use Rattle.marks.proofs.set_bit.Tie as tie

@@ -3,7 +3,7 @@ use native.Mathlib.Omega.{arith}
 use mathlib.Core.Path.{_∙_}
 use lib.ListN.{length-set}
 use Rattle.laws.proofs.Written.{written-length}
-use Rattle.le.proofs.Bytes.{bytes-length}
+use Rattle.little_endian.proofs.Bytes.{bytes-length}
 use Rattle.ply.proofs.Writing.{put-face}
 use borrow.Author.Needs.{needs}
 use Rattle.ply.proofs.put_face.Statement.{statement}

@@ -11,10 +11,10 @@ use Rattle.laws.specs.Written.{Written}
 use Rattle.laws.proofs.Lists.{getD-map}
 use Rattle.laws.proofs.Ranges.{each-none}
 use Rattle.laws.proofs.Written.{written-none, written-turn, written-done, written-room, written-length}
-use Rattle.le.specs.Bytes.{bytesOf}
+use Rattle.little_endian.specs.Bytes.{bytesOf}
 use Rattle.ply.specs.Form.{wordsText}
 use Rattle.ply.specs.Answers.{bitsOf}
-use Rattle.le.proofs.Bytes.{bytes-length}
+use Rattle.little_endian.proofs.Bytes.{bytes-length}
 use Rattle.ply.proofs.put_floats.Statement.{statement}
 use Rattle.ply.proofs.put_floats.Tie as tie
 

@@ -7,9 +7,9 @@ use Rattle.laws.specs.Ranges.{each}
 use Rattle.laws.specs.Written.{Written}
 use Rattle.laws.proofs.Ranges.{each-none}
 use Rattle.laws.proofs.Written.{written-none, written-turn, written-done, written-room, written-length}
-use Rattle.le.specs.Bytes.{bytesOf}
+use Rattle.little_endian.specs.Bytes.{bytesOf}
 use Rattle.ply.specs.Form.{wordsText}
-use Rattle.le.proofs.Bytes.{bytes-length}
+use Rattle.little_endian.proofs.Bytes.{bytes-length}
 use Rattle.ply.proofs.put_words.Statement.{statement}
 use Rattle.ply.proofs.put_words.Tie as tie
 

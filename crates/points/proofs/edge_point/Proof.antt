@@ -2,7 +2,7 @@
 use mathlib.Core.Path.{_≡_, sym, _∙_}
 use mathlib.Core.Bool.{true}
 use lib.Ieee.{Float}
-use Rattle.sides.specs.Sides.{finite, pointFraction}
+use Rattle.samples.specs.Sides.{finite, pointFraction}
 use Rattle.lattice.specs.declared.Ijk.{Ijk}
 use Rattle.points.specs.declared.Point.{Point}
 use Rattle.points.specs.declared.Frame.{Frame}

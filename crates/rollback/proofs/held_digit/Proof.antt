@@ -1,7 +1,7 @@
 -- `rollback::held_digit` meets its contract. Assumes nothing.
 use native.Mathlib.Omega.{arith}
 use Rattle.lattice.proofs.Sites.{sites-most}
-use Rattle.vertices.proofs.Drawing.{place-low}
+use Rattle.site_vertices.proofs.Drawing.{place-low}
 use borrow.Author.Needs.{needs}
 use Rattle.rollback.proofs.Masks.{digit-held, digit-other}
 use Rattle.rollback.proofs.held_digit.Statement.{statement}

@@ -3,7 +3,7 @@ use native.Mathlib.Omega.{arith}
 use mathlib.Core.Bool.{_&&_}
 use Prim.Native.Nat.{_-_, _%_}
 use lib.Dec.{eqb}
-use Rattle.rollback.specs.Turning.{heldAt}
+use Rattle.rollback.specs.Inner.Turning.{heldAt}
 use Rattle.rollback.proofs.Masks.{Masked, masked-start, masked-done, masked-small, digit-small, masked-turn}
 use Rattle.rollback.proofs.held_mask.Statement.{statement}
 use Rattle.rollback.proofs.held_mask.Tie as tie

@@ -10,7 +10,7 @@ use lib.Ieee.{Float}
 use Rattle.lattice.specs.declared.Sides.{Sides}
 use Rattle.lattice.specs.Sites.{sites}
 use Rattle.marks.specs.Marks.{maskAt}
-use Rattle.marks.specs.Loops.{Sampled}
+use Rattle.marks.specs.Inner.Loops.{Sampled}
 use Rattle.points.specs.declared.Frame.{Frame}
 use Rattle.stages.specs.Boxes.{Box}
 use Rattle.stages.specs.Vertices.{Vertex}
@@ -18,7 +18,7 @@ use Rattle.stages.specs.Meshes.{bookOf, positionsOf, tableOf}
 use Rattle.stages.specs.Rounds.{isIn, owners, rollback}
 use Rattle.stages.specs.Samples.{boxOf, positionAt}
 use Rattle.stages.specs.Stages.{Stage}
-use Rattle.vertices.specs.Appending.{Space}
+use Rattle.site_vertices.specs.Inner.Appending.{Space}
 
 -- The lists with a dash hold the vertices ws, j of them: the edge table is theirs, their positions and rows are stored at the front of p and k, and all else
 -- there is as it was.

@@ -10,14 +10,14 @@ use lib.Ieee.{Float}
 use Rattle.laws.specs.Digits.{isSet, mask}
 use Rattle.lattice.specs.declared.Sides.{Sides}
 use Rattle.lattice.specs.Sites.{sites}
-use Rattle.marks.specs.Loops.{Sampled}
-use Rattle.tets.specs.March.{none}
+use Rattle.marks.specs.Inner.Loops.{Sampled}
+use Rattle.march.specs.March.{none}
 use Rattle.points.specs.declared.Frame.{Frame}
 use Rattle.stages.specs.Boxes.{owned}
 use Rattle.stages.specs.Vertices.{Vertex}
 use Rattle.stages.specs.Meshes.{bookOf, positionsOf}
 use Rattle.stages.specs.Samples.{positionAt}
-use Rattle.vertices.specs.Appending.{Space, paintFrom, singlesOf}
+use Rattle.site_vertices.specs.Inner.Appending.{Space, paintFrom, singlesOf}
 
 -- the edge e of the site s is vertex i's by the table t
 unfoldable pub heldAt : Sides → List ℕ → ℕ → ℕ → ℕ → Bool

@@ -1,8 +1,8 @@
--- `view::entry_at` meets its contract. Assumes nothing.
-use Rattle.view.proofs.Lookups.{entry-there, entry-past}
+-- `sample_view::entry_at` meets its contract. Assumes nothing.
+use Rattle.sample_view.proofs.Lookups.{entry-there, entry-past}
 use borrow.Author.Needs.{needs}
-use Rattle.view.proofs.entry_at.Statement.{statement}
-use Rattle.view.proofs.entry_at.Tie as tie
+use Rattle.sample_view.proofs.entry_at.Statement.{statement}
+use Rattle.sample_view.proofs.entry_at.Tie as tie
 
 mul-t6 : tie.Need-mul-t6
 mul-t6 c = search needs

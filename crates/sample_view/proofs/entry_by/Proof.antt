@@ -1,8 +1,8 @@
--- `view::entry_by` meets its contract. Assumes nothing.
-use Rattle.view.proofs.Lookups.{by-found, by-none}
+-- `sample_view::entry_by` meets its contract. Assumes nothing.
+use Rattle.sample_view.proofs.Lookups.{by-found, by-none}
 use borrow.Author.Needs.{needs}
-use Rattle.view.proofs.entry_by.Statement.{statement}
-use Rattle.view.proofs.entry_by.Tie as tie
+use Rattle.sample_view.proofs.entry_by.Statement.{statement}
+use Rattle.sample_view.proofs.entry_by.Tie as tie
 
 enum-told : tie.Need-enum-told
 enum-told c = search needs

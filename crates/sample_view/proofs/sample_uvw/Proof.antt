@@ -1,4 +1,4 @@
--- `view::sample_uvw` meets its contract: a walk of its MIR, by hand. The view that `view_of` returns is held in a local and passed to `at_uvw`. All that the proof knows of the two is that each meets its contract.
+-- `sample_view::sample_uvw` meets its contract: a walk of its MIR, by hand. The view that `view_of` returns is held in a local and passed to `at_uvw`. All that the proof knows of the two is that each meets its contract.
 -- In a local of a body MIR erases the lifetime of the view's type, so the value is shown to have the type at `erased`.
 -- Assumes nothing.
 use mathlib.Core.Path.{_≡_, refl, ap, _∙_}
@@ -38,29 +38,29 @@ use denote.Triple.Table.{entered, cited}
 use denote.Triple.Walked.{says, Stays, stay-none, stay-none-slice, walkOf, goes-none, goes-none-slice, Walks, ends-at, walked, walk-meets}
 use denote.Exit.{yes}
 use denote.Triple.Clauses.{ensured, lasts}
-use Rattle.sides.specs.declared.Sample.{Sample}
-use Rattle.sides.proofs.Sample as S
-use Rattle.sides.proofs.Sample.Laws as S′
+use Rattle.samples.specs.declared.Sample.{Sample}
+use Rattle.samples.proofs.Sample as S
+use Rattle.samples.proofs.Sample.Laws as S′
 use Rattle.lattice.specs.declared.Sides.{Sides}
 use Rattle.lattice.proofs.Sides as N
 use Rattle.lattice.proofs.Sides.Laws as N′
-use Rattle.view.specs.View.{valueUvw}
-use Rattle.view.specs.declared.SampleView.{SampleView}
-use Rattle.view.proofs.SampleView as T
-use Rattle.view.proofs.SampleView.Laws as T′
-use Rattle.view.proofs.Fields.{B, Fields, twice}
-use Rattle.view.proofs.view_of as make
-use Rattle.view.proofs.view_of.Symbol as make-def
-use Rattle.view.proofs.view_of.Symbol.{name as #view·view-of}
-use Rattle.view.proofs.view_of.Met as make-thm
-use Rattle.view.proofs.SampleView.at_uvw as ask
-use Rattle.view.proofs.SampleView.at_uvw.Symbol as ask-def
-use Rattle.view.proofs.SampleView.at_uvw.Symbol.{name as #view·at-uvw}
-use Rattle.view.proofs.SampleView.at_uvw.Met as ask-thm
-use Rattle.view.proofs.sample_uvw.Key.{name as #view·sample-uvw}
-use Rattle.view.proofs.sample_uvw as self
-use Rattle.view.proofs.sample_uvw.Statement as stated
-use Rattle.view.proofs.sample_uvw.Code as code
+use Rattle.sample_view.specs.View.{valueUvw}
+use Rattle.sample_view.specs.declared.SampleView.{SampleView}
+use Rattle.sample_view.proofs.SampleView as T
+use Rattle.sample_view.proofs.SampleView.Laws as T′
+use Rattle.sample_view.proofs.Fields.{B, Fields, twice}
+use Rattle.sample_view.proofs.view_of as make
+use Rattle.sample_view.proofs.view_of.Symbol as make-def
+use Rattle.sample_view.proofs.view_of.Symbol.{name as #sample_view·view-of}
+use Rattle.sample_view.proofs.view_of.Met as make-thm
+use Rattle.sample_view.proofs.SampleView.at_uvw as ask
+use Rattle.sample_view.proofs.SampleView.at_uvw.Symbol as ask-def
+use Rattle.sample_view.proofs.SampleView.at_uvw.Symbol.{name as #sample_view·at-uvw}
+use Rattle.sample_view.proofs.SampleView.at_uvw.Met as ask-thm
+use Rattle.sample_view.proofs.sample_uvw.Key.{name as #sample_view·sample-uvw}
+use Rattle.sample_view.proofs.sample_uvw as self
+use Rattle.sample_view.proofs.sample_uvw.Statement as stated
+use Rattle.sample_view.proofs.sample_uvw.Code as code
 
 abbrev stayed : Stays (self.ended .signature .params) (self.ended .kept)
 stayed = (stay-none-slice (0 ∷ []) tt (plain (λ _. f64)) yes, (stay-none (λ _. N.the-row) yes, (stay-none (λ _. usize) yes, (stay-none (λ _. usize) yes, (stay-none (λ _. usize) yes, tt)))))
@@ -142,7 +142,7 @@ module _ {M : Type 1} (𝓤 : URA M) (H : Heap 𝓤) (A : Atoms 𝓤) (W : Given
       owned ! usize (Is usize) (uint-makes 𝓤 H A W w64) w _ (refl, w-ok) $ fjoin ! $ owned ! usize (Is usize) (uint-makes 𝓤 H A W w64) v _ (refl, v-ok) $ fjoin ! $ owned ! usize (Is usize) (uint-makes 𝓤 H A W w64) u _ (refl, u-ok) $ fjoin ! $
       move ! (1 ∷ 0 ∷ []) $ fjoin ! $ move ! (1 ∷ 0 ∷ []) $ fjoin ! $ frame ! $ done !
 
-  module _ (C : Calls 𝓤 H) (Λ : Loops 𝓤 H) (fm : FmC 𝓤 H (W .laws) C) (known-make : Triple 𝓤 (C #view·view-of) (Make 𝓤 H A mem run)) (known-ask : Triple 𝓤 (C #view·at-uvw) (Ask 𝓤 H A mem run)) where
+  module _ (C : Calls 𝓤 H) (Λ : Loops 𝓤 H) (fm : FmC 𝓤 H (W .laws) C) (known-make : Triple 𝓤 (C #sample_view·view-of) (Make 𝓤 H A mem run)) (known-ask : Triple 𝓤 (C #sample_view·at-uvw) (Ask 𝓤 H A mem run)) where
     walk : Is (ShrSlice (named 0) κ f64) s (σ ∷ []) → Is N.the-row n (ν ∷ []) → ent 𝓤 (onEntry 𝓤 H A self.signature (κ, tt) (q, tt) (s, (n, (u, (v, (w, tt))))) at) (WpFn 𝓤 H C Λ code.function (σ ∷ ν ∷ vint w64 u ∷ vint w64 v ∷ vint w64 w ∷ []) Post)
     walk p r₀ =
         qed W (raw (onEntry 𝓤 H A self.signature (κ, tt) (q, tt) (s, (n, (u, (v, (w, tt))))) at) ∷ []) ∵ enter ! C Λ code.function (σ ∷ ν ∷ vint w64 u ∷ vint w64 v ∷ vint w64 w ∷ []) _ $
@@ -168,13 +168,13 @@ module _ {M : Type 1} (𝓤 : URA M) (H : Heap 𝓤) (A : Atoms 𝓤) (W : Given
         by ! (exits r y (h′ ∙ same d h)))))))))))))))))
 
 module _ {M : Type 1} (𝓤 : URA M) (H : Heap 𝓤) (A : Atoms 𝓤) (W : Given 𝓤 H A) (mem : Memory → SProp 𝓤) (run : Routine → Fun 𝓤) where
-  sample-uvw-walks : (C : Calls 𝓤 H) (Λ : Loops 𝓤 H) → FmC 𝓤 H (W .laws) C → Triple 𝓤 (C #view·view-of) (Make 𝓤 H A mem run) → Triple 𝓤 (C #view·at-uvw) (Ask 𝓤 H A mem run)
+  sample-uvw-walks : (C : Calls 𝓤 H) (Λ : Loops 𝓤 H) → FmC 𝓤 H (W .laws) C → Triple 𝓤 (C #sample_view·view-of) (Make 𝓤 H A mem run) → Triple 𝓤 (C #sample_view·at-uvw) (Ask 𝓤 H A mem run)
       → Walks 𝓤 H A self.ended stayed (WpFn 𝓤 H C Λ code.function) (self.clauses 𝓤 H A mem run)
   sample-uvw-walks C Λ fm known-make known-ask = walked 𝓤 H A self.ended stayed (self.clauses 𝓤 H A mem run) (WpFn 𝓤 H C Λ code.function) (λ κs. (slice-vals, (LL.vals N.the-type N′.the-laws, (uint-vals w64, (uint-vals w64, (uint-vals w64, tt)))))) (λ κs. (shr-slice-tells (named 0) (κs .0) f64, (LL.tells N.the-type N′.the-laws, (uint-tells w64, (uint-tells w64, (uint-tells w64, tt))))))
       (λ κs qs bounds a g are. via 𝓤 _ (fst∗ 𝓤 _ (emp 𝓤)) (walk 𝓤 H A W mem run (κs .0) (qs .0) (a .0) (a .1 .0) (a .1 .1 .0) (a .1 .1 .1 .0) (a .1 .1 .1 .1 .0) (are .1 .1 .0 .1) (are .1 .1 .1 .0 .1) (are .1 .1 .1 .1 .0 .1) C Λ fm known-make known-ask (are .0) (are .1 .0)))
 
 sample-uvw-meets : {M : Type 1} (𝓤 : URA M) (H : Heap 𝓤) (A : Atoms 𝓤) (W : Given 𝓤 H A) (mem : Memory → SProp 𝓤) (run : Routine → Fun 𝓤) (𝓣 : Tables 𝓤 H)
-    → Triple 𝓤 (𝓣 .C #view·view-of) (Make 𝓤 H A mem run) → Triple 𝓤 (𝓣 .C #view·at-uvw) (Ask 𝓤 H A mem run)
+    → Triple 𝓤 (𝓣 .C #sample_view·view-of) (Make 𝓤 H A mem run) → Triple 𝓤 (𝓣 .C #sample_view·at-uvw) (Ask 𝓤 H A mem run)
     → Meets 𝓤 H A self.signature (WpFn 𝓤 H (𝓣 .C) (𝓣 .Λ) code.function) (self.spec 𝓤 H A mem run)
 sample-uvw-meets 𝓤 H A W mem run 𝓣 known-make known-ask =
     walk-meets 𝓤 H A self.ended stayed W
@@ -186,7 +186,7 @@ pub sample-uvw-spec : {M : Type 1} → stated.statement M
 unfolding code.routine tablesOf
 sample-uvw-spec 𝓤 H 𝓜 𝓖 𝓡 =
     entered 𝓤 H (tripleOf 𝓤 H (𝓖 .A) self.signature (self.spec 𝓤 H (𝓖 .A) (𝓜 .mem) (𝓡 .run)))
-    (tables 𝓤 H 𝓜 𝓡 code.env .C) (tables 𝓤 H 𝓜 𝓡 code.env .Λ) #view·sample-uvw code.function (code.unfolded 𝓤 H 𝓜 𝓡)
+    (tables 𝓤 H 𝓜 𝓡 code.env .C) (tables 𝓤 H 𝓜 𝓡 code.env .Λ) #sample_view·sample-uvw code.function (code.unfolded 𝓤 H 𝓜 𝓡)
     (sample-uvw-meets 𝓤 H (𝓖 .A) (givenOf 𝓤 H 𝓜 𝓖) (𝓜 .mem) (𝓡 .run) (tablesOf 𝓤 H 𝓜 (tables 𝓤 H 𝓜 𝓡 code.env))
-    (cited 𝓤 H (Make 𝓤 H (𝓖 .A) (𝓜 .mem) (𝓡 .run)) 𝓜 𝓡 code.env #view·view-of make-def.routine code.calls-view·view-of (make-thm.met 𝓤 H 𝓜 𝓖 𝓡))
-    (cited 𝓤 H (Ask 𝓤 H (𝓖 .A) (𝓜 .mem) (𝓡 .run)) 𝓜 𝓡 code.env #view·at-uvw ask-def.routine code.calls-view·SampleView·at-uvw (ask-thm.met 𝓤 H 𝓜 𝓖 𝓡)))
+    (cited 𝓤 H (Make 𝓤 H (𝓖 .A) (𝓜 .mem) (𝓡 .run)) 𝓜 𝓡 code.env #sample_view·view-of make-def.routine code.calls-sample-view·view-of (make-thm.met 𝓤 H 𝓜 𝓖 𝓡))
+    (cited 𝓤 H (Ask 𝓤 H (𝓖 .A) (𝓜 .mem) (𝓡 .run)) 𝓜 𝓡 code.env #sample_view·at-uvw ask-def.routine code.calls-sample-view·SampleView·at-uvw (ask-thm.met 𝓤 H 𝓜 𝓖 𝓡)))

@@ -1,14 +1,14 @@
--- `view::value_across` meets its contract. Assumes nothing.
+-- `sample_view::value_across` meets its contract. Assumes nothing.
 use mathlib.Core.Path.{_≡_, sym, _∙_, subst}
 use mathlib.Core.Bool.{true}
 use Prim.Native.Nat.{ℕ, _<_}
 use native.Mathlib.Omega.{arith}
 use Rattle.lattice.specs.Sites.{sidesOk}
 use Rattle.lattice.proofs.Sites.{sides-fit}
-use Rattle.view.proofs.Lookups.{across-there, across-no-edge, across-past, across-unfit}
+use Rattle.sample_view.proofs.Lookups.{across-there, across-no-edge, across-past, across-unfit}
 use borrow.Author.Needs.{needs}
-use Rattle.view.proofs.value_across.Statement.{statement}
-use Rattle.view.proofs.value_across.Tie as tie
+use Rattle.sample_view.proofs.value_across.Statement.{statement}
+use Rattle.sample_view.proofs.value_across.Tie as tie
 
 -- the sides fit
 fit : (c : tie.Then1) → sidesOk (c .before .before .before .args .n) ≡ true

@@ -1,10 +1,10 @@
--- `view::value_at` meets its contract. Assumes nothing.
+-- `sample_view::value_at` meets its contract. Assumes nothing.
 use mathlib.Core.Path.{sym, _∙_}
 use Rattle.lattice.proofs.Sites.{sides-fit}
-use Rattle.view.proofs.Lookups.{at-there, at-past, at-unfit}
+use Rattle.sample_view.proofs.Lookups.{at-there, at-past, at-unfit}
 use borrow.Author.Needs.{needs}
-use Rattle.view.proofs.value_at.Statement.{statement}
-use Rattle.view.proofs.value_at.Tie as tie
+use Rattle.sample_view.proofs.value_at.Statement.{statement}
+use Rattle.sample_view.proofs.value_at.Tie as tie
 
 sides-ok-requires : tie.Need-sides-ok-requires
 sides-ok-requires c κs = search needs

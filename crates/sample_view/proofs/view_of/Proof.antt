@@ -1,4 +1,4 @@
--- `view::view_of` meets its contract: a walk of its MIR, by hand. A view is made of the slice and the sides passed, in the result's local.
+-- `sample_view::view_of` meets its contract: a walk of its MIR, by hand. A view is made of the slice and the sides passed, in the result's local.
 -- Assumes nothing.
 use mathlib.Core.Path.{refl}
 use mathlib.Core.List.{List, [], _∷_}
@@ -33,13 +33,13 @@ use denote.Exit.{yes}
 use Rattle.lattice.specs.declared.Sides.{Sides}
 use Rattle.lattice.proofs.Sides as N
 use Rattle.lattice.proofs.Sides.Laws as N′
-use Rattle.view.specs.declared.SampleView.{SampleView}
-use Rattle.view.proofs.SampleView.Laws as T′
-use Rattle.view.proofs.Fields.{Own, Fields, together}
-use Rattle.view.proofs.view_of.Key.{name as #view·view-of}
-use Rattle.view.proofs.view_of as view-of
-use Rattle.view.proofs.view_of.Statement as stated
-use Rattle.view.proofs.view_of.Code as code
+use Rattle.sample_view.specs.declared.SampleView.{SampleView}
+use Rattle.sample_view.proofs.SampleView.Laws as T′
+use Rattle.sample_view.proofs.Fields.{Own, Fields, together}
+use Rattle.sample_view.proofs.view_of.Key.{name as #sample_view·view-of}
+use Rattle.sample_view.proofs.view_of as view-of
+use Rattle.sample_view.proofs.view_of.Statement as stated
+use Rattle.sample_view.proofs.view_of.Code as code
 
 abbrev stayed : Stays (view-of.ended .signature .params) (view-of.ended .kept)
 stayed = (stay-none-slice (0 ∷ []) tt (plain (λ _. f64)) yes, (stay-none (λ _. N.the-row) yes, tt))
@@ -90,5 +90,5 @@ pub view-of-spec : {M : Type 1} → stated.statement M
 unfolding code.routine tablesOf
 view-of-spec 𝓤 H 𝓜 𝓖 𝓡 =
     entered 𝓤 H (tripleOf 𝓤 H (𝓖 .A) view-of.signature (view-of.spec 𝓤 H (𝓖 .A) (𝓜 .mem) (𝓡 .run)))
-    (tables 𝓤 H 𝓜 𝓡 code.env .C) (tables 𝓤 H 𝓜 𝓡 code.env .Λ) #view·view-of code.function (code.unfolded 𝓤 H 𝓜 𝓡)
+    (tables 𝓤 H 𝓜 𝓡 code.env .C) (tables 𝓤 H 𝓜 𝓡 code.env .Λ) #sample_view·view-of code.function (code.unfolded 𝓤 H 𝓜 𝓡)
     (view-of-meets 𝓤 H (𝓖 .A) (givenOf 𝓤 H 𝓜 𝓖) (𝓜 .mem) (𝓡 .run) (tablesOf 𝓤 H 𝓜 (tables 𝓤 H 𝓜 𝓡 code.env)))

@@ -1,8 +1,8 @@
--- `sides::crossing_alpha` meets its contract. Assumes nothing.
-use Rattle.sides.specs.Sides.{crossing}
+-- `samples::crossing_alpha` meets its contract. Assumes nothing.
+use Rattle.samples.specs.Sides.{crossing}
 use borrow.Author.Needs.{needs}
-use Rattle.sides.proofs.crossing_alpha.Statement.{statement}
-use Rattle.sides.proofs.crossing_alpha.Tie as tie
+use Rattle.samples.proofs.crossing_alpha.Statement.{statement}
+use Rattle.samples.proofs.crossing_alpha.Tie as tie
 
 is-inside-requires : tie.Need-is-inside-requires
 is-inside-requires c κs = search needs

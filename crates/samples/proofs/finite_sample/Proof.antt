@@ -1,8 +1,8 @@
--- `sides::finite_sample` meets its contract. Assumes nothing.
-use Rattle.sides.specs.Sides.{whenFinite}
+-- `samples::finite_sample` meets its contract. Assumes nothing.
+use Rattle.samples.specs.Sides.{whenFinite}
 use borrow.Author.Needs.{needs}
-use Rattle.sides.proofs.finite_sample.Statement.{statement}
-use Rattle.sides.proofs.finite_sample.Tie as tie
+use Rattle.samples.proofs.finite_sample.Statement.{statement}
+use Rattle.samples.proofs.finite_sample.Tie as tie
 
 is-finite-requires : tie.Need-is-finite-requires
 is-finite-requires c κs = search needs

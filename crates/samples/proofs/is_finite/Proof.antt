@@ -1,10 +1,10 @@
--- `sides::is_finite` meets its contract. Assumes nothing.
+-- `samples::is_finite` meets its contract. Assumes nothing.
 use mathlib.Core.Path.{_≡_, refl}
 use mathlib.Core.Bool.{true, false, true≢false, false≢true}
 use lib.Ieee.{Float, nan, inf, fin, lt, neg, div, ofBits}
-use Rattle.sides.specs.Sides.{finite}
-use Rattle.sides.proofs.is_finite.Statement.{statement}
-use Rattle.sides.proofs.is_finite.Tie as tie
+use Rattle.samples.specs.Sides.{finite}
+use Rattle.samples.proofs.is_finite.Statement.{statement}
+use Rattle.samples.proofs.is_finite.Tie as tie
 
 below-top : (x : Float) → lt x (inf false) ≡ true → lt (neg (inf false)) x ≡ finite x
 unfolding lt neg finite

@@ -1,8 +1,8 @@
--- `sides::is_near` meets its contract. Assumes nothing.
-use Rattle.sides.specs.Sides.{isNear}
+-- `samples::is_near` meets its contract. Assumes nothing.
+use Rattle.samples.specs.Sides.{isNear}
 use borrow.Author.Needs.{needs}
-use Rattle.sides.proofs.is_near.Statement.{statement}
-use Rattle.sides.proofs.is_near.Tie as tie
+use Rattle.samples.proofs.is_near.Statement.{statement}
+use Rattle.samples.proofs.is_near.Tie as tie
 
 crossing-alpha-requires : tie.Need-crossing-alpha-requires
 crossing-alpha-requires c κs = search needs

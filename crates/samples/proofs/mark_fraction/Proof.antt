@@ -1,8 +1,8 @@
--- `sides::mark_fraction` meets its contract. Assumes nothing.
+-- `samples::mark_fraction` meets its contract. Assumes nothing.
 use mathlib.Core.Path.{refl}
-use Rattle.sides.specs.Sides.{markFraction}
-use Rattle.sides.proofs.mark_fraction.Statement.{statement}
-use Rattle.sides.proofs.mark_fraction.Tie as tie
+use Rattle.samples.specs.Sides.{markFraction}
+use Rattle.samples.proofs.mark_fraction.Statement.{statement}
+use Rattle.samples.proofs.mark_fraction.Tie as tie
 
 returns : tie.Need-returns
 unfolding markFraction

@@ -1,8 +1,8 @@
--- `sides::point_fraction` meets its contract. Assumes nothing.
+-- `samples::point_fraction` meets its contract. Assumes nothing.
 use mathlib.Core.Path.{refl}
-use Rattle.sides.specs.Sides.{pointFraction}
-use Rattle.sides.proofs.point_fraction.Statement.{statement}
-use Rattle.sides.proofs.point_fraction.Tie as tie
+use Rattle.samples.specs.Sides.{pointFraction}
+use Rattle.samples.proofs.point_fraction.Statement.{statement}
+use Rattle.samples.proofs.point_fraction.Tie as tie
 
 returns : tie.Need-returns
 unfolding pointFraction

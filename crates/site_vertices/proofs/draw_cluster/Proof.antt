@@ -1,15 +1,15 @@
--- `vertices::draw_cluster` meets its contract. Assumes nothing.
+-- `site_vertices::draw_cluster` meets its contract. Assumes nothing.
 use borrow.Author.Needs.{needs}
 use native.Mathlib.Omega.{arith}
 use mathlib.Core.Path.{refl}
 use Prim.Native.Nat.{_%_}
 use lib.Dec.{eqb}
 use Rattle.laws.proofs.Ranges.{fold-done}
-use Rattle.vertices.specs.Drawing.{joinTo, claimTo}
+use Rattle.site_vertices.specs.Inner.Drawing.{joinTo, claimTo}
 use Prim.Native.Nat.{_-_}
-use Rattle.vertices.proofs.Drawing.{Drawn, drawn-start, drawn-turn}
-use Rattle.vertices.proofs.draw_cluster.Statement.{statement}
-use Rattle.vertices.proofs.draw_cluster.Tie as tie
+use Rattle.site_vertices.proofs.Drawing.{Drawn, drawn-start, drawn-turn}
+use Rattle.site_vertices.proofs.draw_cluster.Statement.{statement}
+use Rattle.site_vertices.proofs.draw_cluster.Tie as tie
 
 abbrev Inv-loop : tie.InvT-loop
 Inv-loop frame n samples table₀ s mask id sum₀ rest₀ e₀ table sum rest e = Drawn frame n samples s mask id table₀ e table sum rest

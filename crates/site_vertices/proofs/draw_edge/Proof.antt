@@ -1,11 +1,11 @@
--- `vertices::draw_edge` meets its contract. Assumes nothing.
+-- `site_vertices::draw_edge` meets its contract. Assumes nothing.
 use native.Mathlib.Omega.{arith}
 use mathlib.Core.Path.{sym, _∙_}
 use Rattle.lattice.proofs.Sites.{sites-most}
-use Rattle.vertices.proofs.Drawing.{place-low, join-none, join-some, join-not, claim-none, claim-some, claim-not}
+use Rattle.site_vertices.proofs.Drawing.{place-low, join-none, join-some, join-not, claim-none, claim-some, claim-not}
 use borrow.Author.Needs.{needs}
-use Rattle.vertices.proofs.draw_edge.Statement.{statement}
-use Rattle.vertices.proofs.draw_edge.Tie as tie
+use Rattle.site_vertices.proofs.draw_edge.Statement.{statement}
+use Rattle.site_vertices.proofs.draw_edge.Tie as tie
 
 place-of-requires : tie.Need-place-of-requires
 place-of-requires c κs = search needs

@@ -1,10 +1,10 @@
--- `vertices::draw_single` meets its contract. Assumes nothing.
+-- `site_vertices::draw_single` meets its contract. Assumes nothing.
 use Rattle.lattice.proofs.Sites.{sites-most}
-use Rattle.vertices.proofs.Appending.{single-none, single-some, single-long}
+use Rattle.site_vertices.proofs.Appending.{single-none, single-some, single-long}
 use native.Mathlib.Omega.{arith}
 use borrow.Author.Needs.{needs}
-use Rattle.vertices.proofs.draw_single.Statement.{statement}
-use Rattle.vertices.proofs.draw_single.Tie as tie
+use Rattle.site_vertices.proofs.draw_single.Statement.{statement}
+use Rattle.site_vertices.proofs.draw_single.Tie as tie
 
 no-points-requires : tie.Need-no-points-requires
 no-points-requires c κs = search needs

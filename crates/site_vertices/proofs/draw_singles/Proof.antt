@@ -1,10 +1,10 @@
--- `vertices::draw_singles` meets its contract. Assumes nothing.
-use Rattle.vertices.proofs.Appending.{Parted, parted-start, parted-space, parted-turn, parted-done}
+-- `site_vertices::draw_singles` meets its contract. Assumes nothing.
+use Rattle.site_vertices.proofs.Appending.{Parted, parted-start, parted-space, parted-turn, parted-done}
 use borrow.Author.Needs.{needs}
 use Prim.Native.Nat.{_-_}
 use native.Mathlib.Omega.{arith}
-use Rattle.vertices.proofs.draw_singles.Statement.{statement}
-use Rattle.vertices.proofs.draw_singles.Tie as tie
+use Rattle.site_vertices.proofs.draw_singles.Statement.{statement}
+use Rattle.site_vertices.proofs.draw_singles.Tie as tie
 
 abbrev Inv-loop : tie.InvT-loop
 Inv-loop frame n samples table₀ positions₀ book₀ s mask next round at₀ rest₀ e₀ table positions book at rest e = Parted frame n samples round s mask next table₀ positions₀ book₀ e table positions book at rest

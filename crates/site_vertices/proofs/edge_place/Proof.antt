@@ -1,12 +1,12 @@
--- `vertices::edge_place` meets its contract. Assumes nothing.
+-- `site_vertices::edge_place` meets its contract. Assumes nothing.
 use native.Mathlib.Omega.{arith}
 use mathlib.Core.Path.{sym, ap, _∙_}
 use Prim.Native.Nat.{ℕ, _+_, _*_, _-_}
 use Rattle.lattice.proofs.Sites.{sites-most}
 use Rattle.stages.proofs.SampleMarks.{owned-low, owned-high}
 use borrow.Author.Needs.{needs}
-use Rattle.vertices.proofs.edge_place.Statement.{statement}
-use Rattle.vertices.proofs.edge_place.Tie as tie
+use Rattle.site_vertices.proofs.edge_place.Statement.{statement}
+use Rattle.site_vertices.proofs.edge_place.Tie as tie
 
 mul-result : tie.Need-mul-result
 mul-result c = omega (arith, c .before .pre .1, sites-most (c .before .args .n) (c .before .pre .0))

@@ -1,11 +1,11 @@
--- `vertices::end_at` meets its contract. Assumes nothing.
+-- `site_vertices::end_at` meets its contract. Assumes nothing.
 use native.Mathlib.Omega.{arith}
 use mathlib.Core.Path.{sym, ap, _∙_}
 use Rattle.stages.specs.Samples.{endBy}
-use Rattle.vertices.proofs.Ends.{Reached, reached}
+use Rattle.site_vertices.proofs.Ends.{Reached, reached}
 use borrow.Author.Needs.{needs}
-use Rattle.vertices.proofs.end_at.Statement.{statement}
-use Rattle.vertices.proofs.end_at.Tie as tie
+use Rattle.site_vertices.proofs.end_at.Statement.{statement}
+use Rattle.site_vertices.proofs.end_at.Tie as tie
 
 across-requires : tie.Need-across-requires
 across-requires c κs = search needs

@@ -1,12 +1,12 @@
--- `vertices::ends_of` meets its contract. Assumes nothing.
+-- `site_vertices::ends_of` meets its contract. Assumes nothing.
 use native.Mathlib.Omega.{arith}
 use mathlib.Core.Path.{refl, ap₂}
 use mathlib.Core.List.{_∷_}
 use Rattle.laws.specs.Ranges.{each}
 use Rattle.stages.specs.Samples.{endsOf}
 use borrow.Author.Needs.{needs}
-use Rattle.vertices.proofs.ends_of.Statement.{statement}
-use Rattle.vertices.proofs.ends_of.Tie as tie
+use Rattle.site_vertices.proofs.ends_of.Statement.{statement}
+use Rattle.site_vertices.proofs.ends_of.Tie as tie
 
 end-at-requires : tie.Need-end-at-requires
 end-at-requires c κs = search needs

@@ -1,12 +1,12 @@
--- `vertices::place_of` meets its contract. Assumes nothing.
+-- `site_vertices::place_of` meets its contract. Assumes nothing.
 use native.Mathlib.Omega.{arith}
 use mathlib.Core.Path.{sym, ap, _∙_}
 use Rattle.lattice.proofs.Sites.{uvw-box}
 use Rattle.stages.specs.Samples.{placeOf}
-use Rattle.vertices.proofs.Ends.{Reached, reached, box-small}
+use Rattle.site_vertices.proofs.Ends.{Reached, reached, box-small}
 use borrow.Author.Needs.{needs}
-use Rattle.vertices.proofs.place_of.Statement.{statement}
-use Rattle.vertices.proofs.place_of.Tie as tie
+use Rattle.site_vertices.proofs.place_of.Statement.{statement}
+use Rattle.site_vertices.proofs.place_of.Tie as tie
 
 across-requires : tie.Need-across-requires
 across-requires c κs = search needs

@@ -1,12 +1,12 @@
--- `vertices::put_point` meets its contract. Assumes nothing.
+-- `site_vertices::put_point` meets its contract. Assumes nothing.
 use lib.ListN.{length-set}
 use native.Mathlib.Omega.{arith}
 use native.Mathlib.Numerals.{add-one}
 use Prim.Native.Nat.{_+_, suc}
 use mathlib.Core.Path.{_≡_}
 use borrow.Author.Needs.{needs}
-use Rattle.vertices.proofs.put_point.Statement.{statement}
-use Rattle.vertices.proofs.put_point.Tie as tie
+use Rattle.site_vertices.proofs.put_point.Statement.{statement}
+use Rattle.site_vertices.proofs.put_point.Tie as tie
 
 mul-positions : tie.Need-mul-positions
 mul-positions c = search needs

@@ -1,12 +1,12 @@
--- `vertices::put_row` meets its contract. Assumes nothing.
+-- `site_vertices::put_row` meets its contract. Assumes nothing.
 use lib.ListN.{length-set}
 use native.Mathlib.Omega.{arith}
 use native.Mathlib.Numerals.{add-one}
 use Prim.Native.Nat.{_+_, suc}
 use mathlib.Core.Path.{_≡_}
 use borrow.Author.Needs.{needs}
-use Rattle.vertices.proofs.put_row.Statement.{statement}
-use Rattle.vertices.proofs.put_row.Tie as tie
+use Rattle.site_vertices.proofs.put_row.Statement.{statement}
+use Rattle.site_vertices.proofs.put_row.Tie as tie
 
 mul-book : tie.Need-mul-book
 mul-book c = search needs

@@ -1,13 +1,13 @@
--- `vertices::reach_of` meets its contract. Assumes nothing.
+-- `site_vertices::reach_of` meets its contract. Assumes nothing.
 use native.Mathlib.Omega.{arith}
 use mathlib.Core.Path.{refl}
 use Prim.Native.Nat.{_/_, _%_}
 use Rattle.tables.specs.Edges.{du, dv, dw}
 use Rattle.stages.specs.Boxes.{reach}
-use Rattle.vertices.proofs.Places.{Room, reach-room}
+use Rattle.site_vertices.proofs.Places.{Room, reach-room}
 use borrow.Author.Needs.{needs}
-use Rattle.vertices.proofs.reach_of.Statement.{statement}
-use Rattle.vertices.proofs.reach_of.Tie as tie
+use Rattle.site_vertices.proofs.reach_of.Statement.{statement}
+use Rattle.site_vertices.proofs.reach_of.Tie as tie
 
 label-corner-requires : tie.Need-label-corner-requires
 label-corner-requires c κs = search needs

@@ -17,7 +17,7 @@ use Rattle.stages.specs.Boxes.{owned}
 use Rattle.stages.specs.Vertices.{Vertex, fresh, held}
 use Rattle.stages.specs.Meshes.{bookOf, positionsOf}
 use Rattle.stages.specs.Samples.{pointBy, positionAt}
-use Rattle.stages.specs.Steps.{paint}
+use Rattle.stages.specs.Inner.Steps.{paint}
 
 -- the vertices painted in turn, the first of them numbered i: `paintAll` of any box with these sides
 unfoldable pub paintFrom : Sides → ℕ → List Vertex → List ℕ → List ℕ

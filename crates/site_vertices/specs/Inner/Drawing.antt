@@ -9,7 +9,7 @@ use Rattle.laws.specs.Ranges.{fold}
 use Rattle.lattice.specs.declared.Sides.{Sides}
 use Rattle.lattice.specs.Sites.{sites}
 use Rattle.lattice.specs.Across.{acrossOf}
-use Rattle.marks.specs.Loops.{Sampled}
+use Rattle.marks.specs.Inner.Loops.{Sampled}
 use Rattle.points.specs.declared.Frame.{Frame}
 use Rattle.points.specs.declared.Sum.{Sum}
 use Rattle.points.specs.declared.EdgePoint.{EdgePoint}

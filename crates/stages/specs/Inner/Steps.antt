@@ -5,7 +5,7 @@ use Prim.Native.Nat.{ℕ, suc}
 use lib.Dec.{eqb}
 use lib.ListN.{getD, set}
 use Rattle.laws.specs.Ranges.{fold}
-use Rattle.tets.specs.March.{none}
+use Rattle.march.specs.March.{none}
 use Rattle.stages.specs.Boxes.{Box}
 use Rattle.stages.specs.Vertices.{Vertex, nobody, keys, apart}
 use Rattle.stages.specs.Rounds.{rolled, retired}

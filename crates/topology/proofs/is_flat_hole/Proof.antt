@@ -10,8 +10,8 @@ use lib.Ieee.{Float}
 use lib.Bits.{bitAnd}
 use Rattle.tables.specs.declared.FlatHole.{FlatHole}
 use Rattle.tables.specs.FlatHoles.{flatHole}
-use Rattle.sides.specs.declared.Sample.{Sample}
-use Rattle.sides.specs.declared.Sample.the-variants.{Missing, Value}
+use Rattle.samples.specs.declared.Sample.{Sample}
+use Rattle.samples.specs.declared.Sample.the-variants.{Missing, Value}
 use Rattle.topology.specs.declared.TwoEdges.{TwoEdges}
 use Rattle.topology.specs.Flat.{twoEdges, collapsesAt, rowFlat}
 use Rattle.topology.proofs.Rows.{off-first, off-second, on-first, on-second, NoneSo, rows-start, row-skip, row-hit, rows-end, no-edges, no-opposite, by-four}

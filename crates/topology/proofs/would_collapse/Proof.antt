@@ -3,7 +3,7 @@ use borrow.Author.Needs.{needs}
 use mathlib.Core.Path.{_≡_, sym, ap, _∙_}
 use mathlib.Core.Logic.{⊎-elim}
 use mathlib.Core.Bool.{Bool, true, false, _&&_}
-use Rattle.sides.specs.Sides.{isNear}
+use Rattle.samples.specs.Sides.{isNear}
 use Rattle.topology.specs.Flat.{collapses}
 use Rattle.topology.proofs.would_collapse.Statement.{statement}
 use Rattle.topology.proofs.would_collapse.Tie as tie

@@ -1,7 +1,7 @@
--- `passes::draw_at` meets its contract. Assumes nothing.
-use Rattle.passes.proofs.Site.{found-is, site-found, site-none, count-low, number-low, cases-few, cases-none, cases-one}
-use Rattle.passes.proofs.Passing.{ahead-same, passed-none, passed-same}
-use Rattle.passes.specs.Passing.{flagOf}
+-- `vertex_pass::draw_at` meets its contract. Assumes nothing.
+use Rattle.vertex_pass.proofs.Site.{found-is, site-found, site-none, count-low, number-low, cases-few, cases-none, cases-one}
+use Rattle.vertex_pass.proofs.Passing.{ahead-same, passed-none, passed-same}
+use Rattle.vertex_pass.specs.Inner.Passing.{flagOf}
 use Rattle.topology.specs.Topology.{caseNumber}
 use Rattle.topology.specs.declared.TopologyResult.{TopologyResult}
 use Rattle.lattice.proofs.Sites.{sites-most}
@@ -9,8 +9,8 @@ use mathlib.Core.Path.{sym, ap, _∙_}
 use native.Mathlib.Omega.{arith}
 use Prim.Native.Nat.{_<_}
 use borrow.Author.Needs.{needs}
-use Rattle.passes.proofs.draw_at.Statement.{statement}
-use Rattle.passes.proofs.draw_at.Tie as tie
+use Rattle.vertex_pass.proofs.draw_at.Statement.{statement}
+use Rattle.vertex_pass.proofs.draw_at.Tie as tie
 
 mul-m : tie.Need-mul-m
 mul-m c = search needs

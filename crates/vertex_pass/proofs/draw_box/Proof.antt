@@ -1,15 +1,15 @@
--- `passes::draw_box` meets its contract. Assumes nothing.
-use Rattle.passes.proofs.Box.{Walking, walking-start, walking-ahead, walking-turn, walking-done}
-use Rattle.passes.specs.Passing.{flagOf, start}
-use Rattle.tets.specs.March.{none}
+-- `vertex_pass::draw_box` meets its contract. Assumes nothing.
+use Rattle.vertex_pass.proofs.Box.{Walking, walking-start, walking-ahead, walking-turn, walking-done}
+use Rattle.vertex_pass.specs.Inner.Passing.{flagOf, start}
+use Rattle.march.specs.March.{none}
 use Rattle.lattice.specs.Sites.{sites}
 use borrow.Author.Needs.{needs}
 use lib.ListN.{replicate}
 use mathlib.Core.Path.{_≡_, refl, ap, _∙_}
 use Prim.Native.Nat.{_-_, _<_}
 use native.Mathlib.Omega.{arith}
-use Rattle.passes.proofs.draw_box.Statement.{statement}
-use Rattle.passes.proofs.draw_box.Tie as tie
+use Rattle.vertex_pass.proofs.draw_box.Statement.{statement}
+use Rattle.vertex_pass.proofs.draw_box.Tie as tie
 
 abbrev Inv-loop : tie.InvT-loop
 Inv-loop frame n samples masks table₀ positions₀ book₀ flags cluster h k at₀ s₀ table positions book at s = Walking frame n samples h cluster (flagOf flags) positions₀ book₀ s at table positions book × (k ≡ sites n)

@@ -1,12 +1,12 @@
--- `passes::draw_site` meets its contract. Assumes nothing.
-use Rattle.passes.proofs.Passing.{Passing, passing-start, passing-turn, passing-done, ahead-turn}
-use Rattle.passes.specs.Passing.{candidateOf, flagOf}
+-- `vertex_pass::draw_site` meets its contract. Assumes nothing.
+use Rattle.vertex_pass.proofs.Passing.{Passing, passing-start, passing-turn, passing-done, ahead-turn}
+use Rattle.vertex_pass.specs.Inner.Passing.{candidateOf, flagOf}
 use borrow.Author.Needs.{needs}
 use lib.ListN.{getD}
 use Prim.Native.Nat.{_-_}
 use native.Mathlib.Omega.{arith}
-use Rattle.passes.proofs.draw_site.Statement.{statement}
-use Rattle.passes.proofs.draw_site.Tie as tie
+use Rattle.vertex_pass.proofs.draw_site.Statement.{statement}
+use Rattle.vertex_pass.proofs.draw_site.Tie as tie
 
 abbrev Inv-loop : tie.InvT-loop
 Inv-loop frame n samples table₀ positions₀ book₀ flags s now₀ count masks c₀ table positions book now c = Passing frame n samples (flagOf flags) (λ x. candidateOf n samples s (getD masks x 0)) now₀ table₀ positions₀ book₀ count c now table positions book

@@ -1,12 +1,12 @@
--- `passes::draw_vertex` meets its contract. Assumes nothing.
-use Rattle.passes.proofs.Vertex.{vertex-none, vertex-whole, vertex-split, whole-space, split-space, met-one}
-use Rattle.passes.specs.Passing.{flagOf}
+-- `vertex_pass::draw_vertex` meets its contract. Assumes nothing.
+use Rattle.vertex_pass.proofs.Vertex.{vertex-none, vertex-whole, vertex-split, whole-space, split-space, met-one}
+use Rattle.vertex_pass.specs.Inner.Passing.{flagOf}
 use Rattle.lattice.proofs.Sites.{sites-most}
 use mathlib.Core.Path.{sym, _∙_}
 use native.Mathlib.Omega.{arith}
 use borrow.Author.Needs.{needs}
-use Rattle.passes.proofs.draw_vertex.Statement.{statement}
-use Rattle.passes.proofs.draw_vertex.Tie as tie
+use Rattle.vertex_pass.proofs.draw_vertex.Statement.{statement}
+use Rattle.vertex_pass.proofs.draw_vertex.Tie as tie
 
 cast-draw-cluster : tie.Need-cast-draw-cluster
 cast-draw-cluster c = search needs

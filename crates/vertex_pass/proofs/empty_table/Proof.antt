@@ -1,5 +1,5 @@
--- `passes::empty_table` meets its contract. Assumes nothing.
-use Rattle.tets.specs.March.{none}
+-- `vertex_pass::empty_table` meets its contract. Assumes nothing.
+use Rattle.march.specs.March.{none}
 use lib.Seq.{drop-length}
 use lib.ListN.{length, drop, replicate, length-set}
 use borrow.Author.Fill.{fill-none, fill-more}
@@ -7,8 +7,8 @@ use native.Mathlib.Omega.{arith}
 use Prim.Native.Nat.{_≤_, _-_}
 use mathlib.Core.List.{_++_, append-nil}
 use mathlib.Core.Path.{_≡_, refl, ap, _∙_}
-use Rattle.passes.proofs.empty_table.Statement.{statement}
-use Rattle.passes.proofs.empty_table.Tie as tie
+use Rattle.vertex_pass.proofs.empty_table.Statement.{statement}
+use Rattle.vertex_pass.proofs.empty_table.Tie as tie
 
 abbrev Inv-loop : tie.InvT-loop
 Inv-loop table₀ i₀ table i = (i ≤ length table₀) × (length table ≡ length table₀) × (table ≡ replicate i none ++ drop i table₀)

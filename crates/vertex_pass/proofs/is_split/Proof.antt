@@ -1,8 +1,8 @@
--- `passes::is_split` meets its contract. Assumes nothing.
-use Rattle.passes.proofs.Passing.{flag-read, flag-past, flag-few}
+-- `vertex_pass::is_split` meets its contract. Assumes nothing.
+use Rattle.vertex_pass.proofs.Passing.{flag-read, flag-past, flag-few}
 use borrow.Author.Needs.{needs}
-use Rattle.passes.proofs.is_split.Statement.{statement}
-use Rattle.passes.proofs.is_split.Tie as tie
+use Rattle.vertex_pass.proofs.is_split.Statement.{statement}
+use Rattle.vertex_pass.proofs.is_split.Tie as tie
 
 mul-result : tie.Need-mul-result
 mul-result c = search needs

@@ -1,26 +1,26 @@
 -- The vertex pass over candidates, each of which has a flag by its number: a flagged one that holds more than one edge has its edges apart. Assumes nothing.
 use mathlib.Core.Path.{_≡_}
-use mathlib.Core.Bool.{Bool, _&&_, not, cond}
+use mathlib.Core.Bool.{Bool, _&&_, cond}
 use mathlib.Core.List.{List, [], _∷_, _++_, map}
 use Prim.Native.Nat.{ℕ, suc, _+_, _*_, _<_, _≤_}
 use lib.Dec.{eqb}
 use lib.ListN.{length, getD, replicate}
 use lib.Ieee.{Float}
-use Rattle.laws.specs.Bools.{bit}
-use Rattle.laws.specs.Ranges.{each, sum}
+
+use Rattle.laws.specs.Ranges.{each}
 use Rattle.laws.specs.Lists.{keep}
 use Rattle.lattice.specs.declared.Sides.{Sides}
 use Rattle.lattice.specs.Sites.{sites}
 use Rattle.marks.specs.Marks.{maskAt}
-use Rattle.marks.specs.Loops.{Sampled}
-use Rattle.topology.specs.Topology.{topologyOf, caseNumber}
+use Rattle.marks.specs.Inner.Loops.{Sampled}
+
 use Rattle.points.specs.declared.Frame.{Frame}
-use Rattle.tets.specs.March.{none}
+use Rattle.march.specs.March.{none}
 use Rattle.stages.specs.Vertices.{Vertex, several, apart, fresh, filled, candidates}
-use Rattle.stages.specs.Samples.{boxOf, edgesOf, endsOf}
-use Rattle.vertices.specs.Appending.{Appended, Space, pointedOf}
-use Rattle.passes.specs.declared.Pass.{Pass}
-use Rattle.passes.specs.declared.Walk.{Walk}
+use Rattle.stages.specs.Samples.{boxOf, edgesOf, caseCount}
+use Rattle.site_vertices.specs.Inner.Appending.{Appended, Space, pointedOf}
+use Rattle.vertex_pass.specs.declared.Pass.{Pass}
+use Rattle.vertex_pass.specs.declared.Walk.{Walk}
 
 -- the vertices from candidate i on, where q says which are flagged: `place ps` flags the ends of the pairs ps
 unfoldable pub placeBy : (ℕ → Bool) → ℕ → List Vertex → List Vertex
@@ -57,14 +57,7 @@ start = record { next = 0; tried = 0; split = 0 }
 
 -- ---- the cases of the sites
 
--- the site has marked edges, and its case has the number j
-unfoldable pub isCase : Sides → List Float → Float → Bool → ℕ → ℕ → Bool
-isCase n S h cluster j s = not (eqb (maskAt n S h s) 0) && eqb (caseNumber (topologyOf (maskAt n S h s) cluster (endsOf n S s) h .case)) j
-
--- how many of the first k sites; and the six numbers in a list
-unfoldable pub caseCount : Sides → List Float → Float → Bool → ℕ → ℕ → ℕ
-caseCount n S h cluster k j = sum k (λ s. bit (isCase n S h cluster j s))
-
+-- the six numbers of the first k sites
 unfoldable pub casesTo : Sides → List Float → Float → Bool → ℕ → List ℕ
 casesTo n S h cluster k = each 6 (λ j. caseCount n S h cluster k j ∷ [])
 

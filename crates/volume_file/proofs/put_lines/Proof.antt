@@ -2,7 +2,7 @@
 use native.Mathlib.Omega.{arith}
 use Rattle.laws.proofs.Sizes.{rd}
 use Rattle.laws.proofs.Written.{written-length}
-use Rattle.text.proofs.Printing.{refusal-length}
+use Rattle.lines.proofs.Printing.{refusal-length}
 use Rattle.volume_file.specs.Text.{trianglesKey, sixthsKey}
 use Rattle.volume_file.proofs.Printing.{line-fits, line-ends, six-room, volume-room, lines-put}
 use borrow.Author.Needs.{needs}

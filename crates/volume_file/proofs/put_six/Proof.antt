@@ -2,7 +2,7 @@
 use native.Mathlib.Omega.{arith}
 use Rattle.laws.proofs.Sizes.{rd}
 use Rattle.laws.proofs.Written.{written-length}
-use Rattle.text.proofs.Decimals.{dec-room}
+use Rattle.lines.proofs.Decimals.{dec-room}
 use Rattle.decimals.proofs.Printing.{sign-room}
 use Rattle.volume_file.proofs.Printing.{six-put}
 use borrow.Author.Needs.{needs}

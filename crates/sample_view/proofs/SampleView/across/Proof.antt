@@ -1,4 +1,4 @@
--- `view::SampleView::across` meets its contract: a walk of its MIR, by hand. The view is taken apart, and `value_across` is called on the slice, the sides and the two numbers. All that the proof knows of `value_across` is that it meets its contract.
+-- `sample_view::SampleView::across` meets its contract: a walk of its MIR, by hand. The view is taken apart, and `value_across` is called on the slice, the sides and the two numbers. All that the proof knows of `value_across` is that it meets its contract.
 -- The view is Copy: it is kept whole for the exit, and what its fields own goes to the callee with the numbers, beside the lifetime's token, which comes back.
 -- Assumes nothing.
 use mathlib.Core.Path.{_≡_, refl}
@@ -39,24 +39,24 @@ use denote.Triple.Table.{entered, cited}
 use denote.Triple.Walked.{says, Stays, stay-none, walkOf, goes-none, Walks, ends-at, walked, walk-meets}
 use denote.Exit.{yes}
 use denote.Triple.Clauses.{ensured, lasts}
-use Rattle.sides.specs.declared.Sample.{Sample}
-use Rattle.sides.proofs.Sample as S
-use Rattle.sides.proofs.Sample.Laws as S′
+use Rattle.samples.specs.declared.Sample.{Sample}
+use Rattle.samples.proofs.Sample as S
+use Rattle.samples.proofs.Sample.Laws as S′
 use Rattle.lattice.proofs.Sides as N
 use Rattle.lattice.proofs.Sides.Laws as N′
-use Rattle.view.specs.View.{valueAcross}
-use Rattle.view.specs.declared.SampleView.{SampleView}
-use Rattle.view.proofs.SampleView as T
-use Rattle.view.proofs.SampleView.Laws as T′
-use Rattle.view.proofs.Fields.{B, Own, Fields, apart}
-use Rattle.view.proofs.value_across as value
-use Rattle.view.proofs.value_across.Symbol as value-def
-use Rattle.view.proofs.value_across.Symbol.{name as #view·value-across}
-use Rattle.view.proofs.value_across.Met as value-thm
-use Rattle.view.proofs.SampleView.across.Key.{name as #view·across}
-use Rattle.view.proofs.SampleView.across as self
-use Rattle.view.proofs.SampleView.across.Statement as stated
-use Rattle.view.proofs.SampleView.across.Code as code
+use Rattle.sample_view.specs.View.{valueAcross}
+use Rattle.sample_view.specs.declared.SampleView.{SampleView}
+use Rattle.sample_view.proofs.SampleView as T
+use Rattle.sample_view.proofs.SampleView.Laws as T′
+use Rattle.sample_view.proofs.Fields.{B, Own, Fields, apart}
+use Rattle.sample_view.proofs.value_across as value
+use Rattle.sample_view.proofs.value_across.Symbol as value-def
+use Rattle.sample_view.proofs.value_across.Symbol.{name as #sample_view·value-across}
+use Rattle.sample_view.proofs.value_across.Met as value-thm
+use Rattle.sample_view.proofs.SampleView.across.Key.{name as #sample_view·across}
+use Rattle.sample_view.proofs.SampleView.across as self
+use Rattle.sample_view.proofs.SampleView.across.Statement as stated
+use Rattle.sample_view.proofs.SampleView.across.Code as code
 
 abbrev stayed : Stays (self.ended .signature .params) (self.ended .kept)
 stayed = (stay-none B yes, (stay-none (λ _. usize) yes, (stay-none (λ _. usize) yes, tt)))
@@ -107,7 +107,7 @@ module _ {M : Type 1} (𝓤 : URA M) (H : Heap 𝓤) (A : Atoms 𝓤) (W : Given
       suffices ! _ (ends-at 𝓤 H A self.ended stayed (self.clauses 𝓤 H A mem run) W (((κ, tt), (q, tt), tt, (d, (s, (e, tt))), at), tt) x r (tt, (tt, (tt, tt))) (tt, (tt, (tt, tt)))) $ says ! h $
       move ! (1 ∷ []) $ frame ! $ nothing ! $ owned ! usize (Is usize) (uint-makes 𝓤 H A W w64) e _ (refl, e-ok) $ fjoin ! $ owned ! usize (Is usize) (uint-makes 𝓤 H A W w64) s _ (refl, s-ok) $ fjoin ! $ move ! (2 ∷ 0 ∷ []) $ fjoin ! $ frame ! $ done !
 
-  module _ (C : Calls 𝓤 H) (Λ : Loops 𝓤 H) (fm : FmC 𝓤 H (W .laws) C) (known : Triple 𝓤 (C #view·value-across) (Value 𝓤 H A mem run)) where
+  module _ (C : Calls 𝓤 H) (Λ : Loops 𝓤 H) (fm : FmC 𝓤 H (W .laws) C) (known : Triple 𝓤 (C #sample_view·value-across) (Value 𝓤 H A mem run)) where
     walk : Holds (hasTy (T′.mir (named 0)) mach) × WT mach → ent 𝓤 (onEntry 𝓤 H A self.signature (κ, tt) (q, tt) (d, (s, (e, tt))) at) (WpFn 𝓤 H C Λ code.function (mach ∷ vint w64 s ∷ vint w64 e ∷ []) Post)
     walk wt =
         qed W (raw (onEntry 𝓤 H A self.signature (κ, tt) (q, tt) (d, (s, (e, tt))) at) ∷ []) ∵ enter ! C Λ code.function (mach ∷ vint w64 s ∷ vint w64 e ∷ []) _ $
@@ -125,13 +125,13 @@ module _ {M : Type 1} (𝓤 : URA M) (H : Heap 𝓤) (A : Atoms 𝓤) (W : Given
         move ! (13 ∷ 14 ∷ []) $ free1 ! $ move ! (11 ∷ 12 ∷ []) $ free1 ! $ move ! (9 ∷ 10 ∷ []) $ free1 ! $ move ! (7 ∷ 8 ∷ []) $ free1 ! $ move ! (5 ∷ 6 ∷ []) $ free1 ! $ move ! (3 ∷ 4 ∷ []) $ free1 ! $ free0 ! $ by ! (exits r x h)))))))))))
 
 module _ {M : Type 1} (𝓤 : URA M) (H : Heap 𝓤) (A : Atoms 𝓤) (W : Given 𝓤 H A) (mem : Memory → SProp 𝓤) (run : Routine → Fun 𝓤) where
-  across-walks : (C : Calls 𝓤 H) (Λ : Loops 𝓤 H) → FmC 𝓤 H (W .laws) C → Triple 𝓤 (C #view·value-across) (Value 𝓤 H A mem run)
+  across-walks : (C : Calls 𝓤 H) (Λ : Loops 𝓤 H) → FmC 𝓤 H (W .laws) C → Triple 𝓤 (C #sample_view·value-across) (Value 𝓤 H A mem run)
       → Walks 𝓤 H A self.ended stayed (WpFn 𝓤 H C Λ code.function) (self.clauses 𝓤 H A mem run)
   across-walks C Λ fm known = walked 𝓤 H A self.ended stayed (self.clauses 𝓤 H A mem run) (WpFn 𝓤 H C Λ code.function) (λ κs. (LL.vals (T.the-type (namedLft 1 0 tt κs)) (T′.the-laws (namedLft 1 0 tt κs)), (uint-vals w64, (uint-vals w64, tt)))) (λ κs. (LL.tells (T.the-type (namedLft 1 0 tt κs)) (T′.the-laws (namedLft 1 0 tt κs)), (uint-tells w64, (uint-tells w64, tt))))
       (λ κs qs bounds a g are. via 𝓤 _ (fst∗ 𝓤 _ (emp 𝓤)) (walk 𝓤 H A W mem run (κs .0) (qs .0) (a .0) (a .1 .0) (a .1 .1 .0) (are .1 .0 .1) (are .1 .1 .0 .1) C Λ fm known (LL.lawful (T.the-type (namedLft 1 0 tt κs)) (T′.the-laws (namedLft 1 0 tt κs)) 𝓤 H A W .typed (a .0) _ (are .0) .0)))
 
 across-meets : {M : Type 1} (𝓤 : URA M) (H : Heap 𝓤) (A : Atoms 𝓤) (W : Given 𝓤 H A) (mem : Memory → SProp 𝓤) (run : Routine → Fun 𝓤) (𝓣 : Tables 𝓤 H)
-    → Triple 𝓤 (𝓣 .C #view·value-across) (Value 𝓤 H A mem run)
+    → Triple 𝓤 (𝓣 .C #sample_view·value-across) (Value 𝓤 H A mem run)
     → Meets 𝓤 H A self.signature (WpFn 𝓤 H (𝓣 .C) (𝓣 .Λ) code.function) (self.spec 𝓤 H A mem run)
 across-meets 𝓤 H A W mem run 𝓣 known = walk-meets 𝓤 H A self.ended stayed W (goes-none 𝓤 H A W 1 B yes (λ κs x f. refl), (goes-none 𝓤 H A W 1 (λ _. usize) yes (λ κs x f. refl), (goes-none 𝓤 H A W 1 (λ _. usize) yes (λ κs x f. refl), tt))) (self.clauses 𝓤 H A mem run) (WpFn 𝓤 H (𝓣 .C) (𝓣 .Λ) code.function) (WpFn-mono 𝓤 H (W .laws) 𝓣 code.function)
     (across-walks 𝓤 H A W mem run (𝓣 .C) (𝓣 .Λ) (fmOf 𝓤 H (W .laws) 𝓣) known)
@@ -140,6 +140,6 @@ pub across-spec : {M : Type 1} → stated.statement M
 unfolding code.routine tablesOf
 across-spec 𝓤 H 𝓜 𝓖 𝓡 =
     entered 𝓤 H (tripleOf 𝓤 H (𝓖 .A) self.signature (self.spec 𝓤 H (𝓖 .A) (𝓜 .mem) (𝓡 .run)))
-    (tables 𝓤 H 𝓜 𝓡 code.env .C) (tables 𝓤 H 𝓜 𝓡 code.env .Λ) #view·across code.function (code.unfolded 𝓤 H 𝓜 𝓡)
+    (tables 𝓤 H 𝓜 𝓡 code.env .C) (tables 𝓤 H 𝓜 𝓡 code.env .Λ) #sample_view·across code.function (code.unfolded 𝓤 H 𝓜 𝓡)
     (across-meets 𝓤 H (𝓖 .A) (givenOf 𝓤 H 𝓜 𝓖) (𝓜 .mem) (𝓡 .run) (tablesOf 𝓤 H 𝓜 (tables 𝓤 H 𝓜 𝓡 code.env))
-    (cited 𝓤 H (Value 𝓤 H (𝓖 .A) (𝓜 .mem) (𝓡 .run)) 𝓜 𝓡 code.env #view·value-across value-def.routine code.calls-view·value-across (value-thm.met 𝓤 H 𝓜 𝓖 𝓡)))
+    (cited 𝓤 H (Value 𝓤 H (𝓖 .A) (𝓜 .mem) (𝓡 .run)) 𝓜 𝓡 code.env #sample_view·value-across value-def.routine code.calls-sample-view·value-across (value-thm.met 𝓤 H 𝓜 𝓖 𝓡)))
