@@ -1,4 +1,4 @@
-// Benchmark of the crate `pairs`: its sort and its run walk against Rust's sort_unstable and against counting in a HashMap, on the same records, in one run.
+// Benchmark of the crates `sort` and `pairs`: the sort and the run walk against Rust's sort_unstable and against counting in a HashMap, on the same records, in one run.
 //
 // Two tables. "sort": records of three words (lower end, higher end, number) put in order.
 // "flags": from a list of triangles to one flag a side, 1 where its pair is a side more than twice.

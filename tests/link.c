@@ -1,4 +1,4 @@
-/* Links the archive from C by the header: document 01's example, one refusal, its PLY file written and read, document 02's volume, the topology test and the sort.
+/* Links the archive from C by the header: the example (docs/SCOPE.md, S10.6), one refusal, its PLY file written and read, the volume of docs/SCOPE.md, S12.5, the topology test and the sort.
    Prints "ok". */
 #include "spoonthicket.h"
 
@@ -68,7 +68,7 @@ int main(void)
     }
 
     {
-        /* Document 02's check: -3 in the middle, 1 around it, four units apart. 216 cubic units, so 1296. */
+        /* The check of docs/SCOPE.md, S12.5: -3 in the middle, 1 around it, four units apart. 216 cubic units, so 1296. */
         const double apart[6] = {0.0, 0.0, 0.0, 4.0, 4.0, 4.0};
         const int64_t here[3] = {0, 0, 0}, there[3] = {5, -7, 11}, far[3] = {INT64_MAX, INT64_MIN, 0};
         int64_t six[1];
@@ -78,7 +78,7 @@ int main(void)
         for (method = 0; method < 2; method++) {
             if (spoonthicket_build(3, 3, 3, method, 4, apart, samples, SITES, masks, SITES, table, 7 * SITES, vertices, 3 * MOST, book, 4 * MOST,
                                    triangles, 36 * CELLS, edges, 108 * CELLS, counts) != SPOONTHICKET_DONE)
-                return failed("the box of document 02 is refused");
+                return failed("the box of the check is refused");
             made = 3 * counts[SPOONTHICKET_MADE];
             corners = 3 * counts[SPOONTHICKET_TRIANGLES];
             six[0] = -1;

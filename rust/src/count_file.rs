@@ -1,4 +1,4 @@
-//! The count file of document 01, read into what a build is asked for. This reader is plain Rust; the proved one is crates/text.
+//! The count file (docs/SCOPE.md, S10), read into what a build is asked for. This reader is plain Rust; the proved one is crates/count_file.
 
 use crate::Request;
 
@@ -38,7 +38,7 @@ fn float(rest: &mut &str, key: &str) -> Option<f64> {
     if form { u64::from_str_radix(text, 16).ok().map(f64::from_bits) } else { None }
 }
 
-/// The file's values, or None where it is not of the form or has over 216 sites (document 01's status 8).
+/// The file's values, or None where it is not of the form or has over 216 sites (status 8 of docs/SCOPE.md, S10.4).
 pub fn read(bytes: &[u8]) -> Option<CountFile> {
     let mut text = std::str::from_utf8(bytes).ok()?;
     let rest = &mut text;

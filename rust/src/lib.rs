@@ -89,7 +89,7 @@ pub struct Request<'a> {
     pub samples: &'a [f64],
 }
 
-/// Why nothing was built: document 01's number, 1 to 7.
+/// Why nothing was built: the number of docs/SCOPE.md, S9.2, 1 to 7.
 #[derive(Clone, Copy, Debug, PartialEq, Eq)]
 pub struct Refusal(pub usize);
 

@@ -1,4 +1,4 @@
-//! Tests that link the archive: document 01's examples, every refusal with every buffer untouched, buffers exactly full and one short.
+//! Tests that link the archive: examples to check by (docs/SCOPE.md, S14.1), every refusal with every buffer untouched, buffers exactly full and one short.
 
 use spoonthicket::{build, build_in, sort, topology, Buffers, Counts, Refusal, Request, NONE};
 
@@ -37,7 +37,7 @@ fn refuses(number: usize, request: &Request, b: &Buffers) {
     assert!(after == *b, "a refusal stored something");
 }
 
-/// Document 01's crossed edges, counted by hand: seven owned edges a site, along (a, b, c) not all 0.
+/// The crossed edges (docs/SCOPE.md, S3.3), counted by hand: seven owned edges a site, along (a, b, c) not all 0.
 fn crossed(sides: [usize; 3], s: &[f64]) -> usize {
     let [nu, nv, nw] = sides;
     let mut n = 0;
@@ -79,7 +79,7 @@ impl Random {
 }
 
 #[test]
-fn example_of_document_01() {
+fn example() {
     let s = ball(1.0, -1.0);
     let mesh = build(&asked([3, 3, 3], &s)).unwrap();
     let counts = Counts { crossed: 14, vertices: 8, triangles: 12, simple: 8, ..Counts::default() };
@@ -89,7 +89,7 @@ fn example_of_document_01() {
 }
 
 #[test]
-fn closed_surfaces_of_document_01() {
+fn closed_surfaces() {
     for s in [ball(1.0, -3.0), ball(3.0, -1.0)] {
         let mesh = build(&asked([3, 3, 3], &s)).unwrap();
         assert_eq!((mesh.counts.vertices, mesh.counts.triangles), (14, 24));
@@ -293,7 +293,7 @@ fn pieces_make_the_whole() {
 }
 
 #[test]
-fn topology_of_document_01() {
+fn topology_examples() {
     let far = [f64::NAN; 14];
     assert_eq!(topology(0, 1, &far), (4, vec![]));
     assert_eq!(topology(0xC000, 1, &far), (4, vec![]));

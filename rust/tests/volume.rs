@@ -1,4 +1,4 @@
-//! Tests of the volume through the linked archive: document 02's check, every refusal and each limit from both sides, lists beside plain Rust, the meshes of
+//! Tests of the volume through the linked archive: the check of docs/SCOPE.md, S12.5, every refusal and each limit from both sides, lists beside plain Rust, the meshes of
 //! builds at other origins, in other orders, turned and reversed, and the pieces of a cut survey.
 
 use spoonthicket::volume::{six_volume, six_volume_of, Refusal};

@@ -1,4 +1,4 @@
-// The count file of document 01: read, refuse, answer, print; and the dump of FORMAT.md. All ours.
+// The count file (docs/SCOPE.md, S10): read, refuse, answer, print; and the dump of FORMAT.md. All ours.
 
 use crate::isosurface::{build, Answer, Input};
 use crate::ply;
@@ -107,7 +107,7 @@ pub fn run(bytes: &[u8], unbounded: bool, with_topology: bool) -> (u32, Option<(
     (0, Some((input, answer)))
 }
 
-/// What document 01 says of every answer; stops the program where it does not hold.
+/// What docs/SCOPE.md, S8 and S15 say of every answer; stops the program where it does not hold.
 fn check(input: &Input, rounds: usize, answer: &Answer) {
     let cells: usize = input.sides.iter().map(|n| n - 1).product();
     assert!(answer.positions.len() / 3 <= 3 * answer.crossed / 2, "more than X vertices");

@@ -34,7 +34,7 @@ impl Rng {
     }
 }
 
-/// The threshold of document 01, negated: outside. The next f64 below it is inside.
+/// The threshold (docs/SCOPE.md, S3.1), negated: outside. The next f64 below it is inside.
 pub const EDGE: f64 = -1.0e-9;
 
 fn after(x: f64, steps: i64) -> f64 {

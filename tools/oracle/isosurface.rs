@@ -1,4 +1,4 @@
-// The oracle's module `isosurface`: document 01's stand-ins, shims, and the items taken out of the shown isosurface.rs.
+// The oracle's module `isosurface`: the stand-ins of docs/SCOPE.md, S16.4, shims, and the items taken out of the shown isosurface.rs.
 //
 // topology.rs asks this module for `lerp_alpha`. Everything written in this file is ours; the
 // Rust's own text comes in by the `include!` at the end. Main.rs lists what is ours.
@@ -8,7 +8,7 @@ use crate::topology::{self, TopologyCase};
 use rayon::prelude::*;
 use std::collections::{HashMap, HashSet};
 
-// ---- Document 01's stand-ins ----
+// ---- The stand-ins of docs/SCOPE.md, S16.4 ----
 
 /// alpha is a/(a-b): no clamp, no rule for a small divisor.
 pub fn lerp_alpha(a: f64, b: f64) -> f64 {
@@ -247,7 +247,7 @@ pub struct Answer {
     pub triangles: Vec<usize>,
 }
 
-/// Document 01's number of a case.
+/// The number of a case (docs/SCOPE.md, S4.3).
 pub fn case_number(case: &TopologyCase) -> usize {
     match case {
         TopologyCase::ClosedSurface => 0,

@@ -1,4 +1,4 @@
-// The oracle: the shown Rust, run with document 01's stand-ins, to be held beside our own programs.
+// The oracle: the shown Rust, run with the stand-ins of docs/SCOPE.md, S16.4, to be held beside our own programs.
 //
 // THE RUST'S, compiled from its own files at build time (tools/oracle/build):
 //   topology.rs, constants.rs     whole and unchanged
@@ -11,7 +11,7 @@
 //                                 candidates to the end of the rollback rounds
 //
 // OURS, all of it:
-//   Document 01's stand-ins (isosurface.rs of this folder): the box of sites and their order (`keys`), the frame
+//   The stand-ins of docs/SCOPE.md, S16.4 (isosurface.rs of this folder): the box of sites and their order (`keys`), the frame
 //     (SampleLattice), lerp_alpha as a/(a-b), edge_intersection_point, rollback_cluster_owners and its order,
 //     and E as the number of times the marking loop marks.
 //   Changes made to the taken text: an end outside the box is passed over in the marking loop; `0..4` is `0..rounds`;

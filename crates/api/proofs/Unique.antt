@@ -1,52 +1,31 @@
 -- The promise of each function that is linked determines its answer and every entry of every list. Assumes nothing.
 use mathlib.Core.Path.{_≡_, sym, ap, _∙_}
-use mathlib.Core.Bool.{Bool}
 use mathlib.Core.List.{List, [], _∷_}
 use Prim.Native.Nat.{ℕ}
 use lib.IntN.{ℤ}
 use lib.Ieee.{Float}
-use Rattle.samples.specs.declared.Sample.{Sample}
-use Rattle.topology.specs.Topology.{topologyOf, caseNumber}
-use Rattle.build.specs.Answer.{Order, answerOf, masksAfter, tableAfter, positionsAfter, bookAfter, trianglesAfter, edgesAfter}
-use Rattle.ply.specs.declared.Wrote.{Wrote}
+use Rattle.build.specs.declared.Answer.{Answer}
+use Rattle.build.specs.Answer.{Lists, countsOf}
+use Rattle.build.proofs.Unique.{build-unique}
+use Rattle.ply_write.specs.declared.Wrote.{Wrote}
 use Rattle.ply.specs.declared.Counts.{Counts}
-use Rattle.ply.proofs.Promises.{write-unique, sizes-unique, read-unique}
-use Rattle.api.specs.Calls.{countsOf}
+use Rattle.ply_write.proofs.Promises.{write-unique}
+use Rattle.ply.proofs.Promises.{sizes-unique, read-unique}
+use Rattle.api.specs.Calls.{CallOf, TopologyTold}
 use Rattle.api.specs.Files.{PlyWritten, PlySized, PlyRead}
 use Rattle.api.specs.Volumes.{VolumeTold}
 
-module _ (o : Order) (m t : List ℕ) (p : List Float) (k tr e : List ℕ) where
-  -- the eight promises of `spoonthicket_build`
-  pub record Conforms (r : ℕ) (c m′ t′ : List ℕ) (p′ : List Float) (k′ tr′ e′ : List ℕ) : Type 0 where
-    pub status : r ≡ answerOf o .status
-    pub counts : c ≡ countsOf (answerOf o)
-    pub masks : m′ ≡ masksAfter o m
-    pub table : t′ ≡ tableAfter o t
-    pub positions : p′ ≡ positionsAfter o p
-    pub book : k′ ≡ bookAfter o k
-    pub triangles : tr′ ≡ trianglesAfter o tr
-    pub edges : e′ ≡ edgesAfter o e
+-- ANY TWO CONFORMING ANSWERS ARE EQUAL: that of `spoonthicket_build`
+pub call-unique : {nu nv nw method R : ℕ} {f S : List Float} {l l₁ l₂ : Lists} {r q : ℕ} {c d : List ℕ} → CallOf nu nv nw method R f S l l₁ r c
+    → CallOf nu nv nw method R f S l l₂ q d → (l₁ ≡ l₂) × (r ≡ q) × (c ≡ d)
+call-unique a b =
+    let u = build-unique (a .is) (b .is) in
+    (u .1, a .status ∙ ap (λ (z : Answer). z .status) (u .0) ∙ sym (b .status), a .counts ∙ ap countsOf (u .0) ∙ sym (b .counts))
 
-  -- ANY TWO CONFORMING ANSWERS ARE EQUAL
-  pub call-unique : {r s : ℕ} {c d m₁ m₂ t₁ t₂ : List ℕ} {p₁ p₂ : List Float} {k₁ k₂ tr₁ tr₂ e₁ e₂ : List ℕ}
-      → Conforms r c m₁ t₁ p₁ k₁ tr₁ e₁ → Conforms s d m₂ t₂ p₂ k₂ tr₂ e₂
-      → (r ≡ s) × (c ≡ d) × (m₁ ≡ m₂) × (t₁ ≡ t₂) × (p₁ ≡ p₂) × (k₁ ≡ k₂) × (tr₁ ≡ tr₂) × (e₁ ≡ e₂)
-  call-unique a b = (
-    a .status ∙ sym (b .status),
-    a .counts ∙ sym (b .counts),
-    a .masks ∙ sym (b .masks),
-    a .table ∙ sym (b .table),
-    a .positions ∙ sym (b .positions),
-    a .book ∙ sym (b .book),
-    a .triangles ∙ sym (b .triangles),
-    a .edges ∙ sym (b .edges),
-  )
-
--- those of `spoonthicket_topology`; that of `spoonthicket_sort` is `sort-unique` of pairs
-module _ (m : ℕ) (cluster : Bool) (ends : List Sample) (h : Float) where
-  pub topology-unique : {r s : ℕ} {c d : List ℕ} → r ≡ caseNumber (topologyOf m cluster ends h .case) → s ≡ caseNumber (topologyOf m cluster ends h .case)
-      → c ≡ topologyOf m cluster ends h .clusters .masks → d ≡ topologyOf m cluster ends h .clusters .masks → (r ≡ s) × (c ≡ d)
-  topology-unique p q u v = (p ∙ sym q, u ∙ sym v)
+-- that of `spoonthicket_topology`; that of `spoonthicket_sort` is `sort-unique` of sort
+pub topology-unique : {mask method : ℕ} {ends : List Float} {r q : ℕ} {c d : List ℕ} → TopologyTold mask method ends r c → TopologyTold mask method ends q d
+    → (r ≡ q) × (c ≡ d)
+topology-unique a b = (a .case ∙ sym (b .case), a .clusters ∙ sym (b .clusters))
 
 -- those of the functions on PLY files
 pub ply-written-unique : {ws ts l x y n m : List ℕ} {r q : ℕ} → PlyWritten ws ts l x r n → PlyWritten ws ts l y q m → (x ≡ y) × (r ≡ q) × (n ≡ m)

@@ -1,31 +1,37 @@
 -- What a caller from C or Rust hands over, and what the counts list holds afterwards. Assumes nothing.
+use mathlib.Core.Path.{_≡_}
 use mathlib.Core.List.{List, [], _∷_}
 use Prim.Native.Nat.{ℕ}
-use lib.ListN.{length}
+use lib.Dec.{eqb}
 use lib.Ieee.{Float}
 use Rattle.laws.specs.Ranges.{each}
 use Rattle.samples.specs.declared.Sample.{Sample}
-use Rattle.samples.specs.Sides.{whenFinite}
+use Rattle.samples.specs.Sides.{base, whenFinite}
 use Rattle.marks.specs.Marks.{sample}
+use Rattle.topology.specs.Topology.{topologyOf, caseNumber}
 use Rattle.points.specs.declared.Frame.{Frame}
 use Rattle.points.specs.Positions.{frameOf}
 use Rattle.build.specs.declared.Answer.{Answer}
-use Rattle.build.specs.Answer.{Order, order}
+use Rattle.build.specs.Answer.{Lists, countsOf, BuildIn}
 
 -- six numbers: the origin, then the step
 unfoldable pub frameAt : List Float → Frame
 frameAt f = frameOf (record { x = sample f 0; y = sample f 1; z = sample f 2 }) (record { x = sample f 3; y = sample f 4; z = sample f 5 })
 
--- the order that a call places: its numbers, its samples, and how long the six lists are
-abbrev pub asked : (nu nv nw method rounds : ℕ) (f S : List Float) (m t : List ℕ) (p : List Float) (k tr e : List ℕ) → Order
-asked nu nv nw method R f S m t p k tr e =
-    order (record { nu = nu; nv = nv; nw = nw }) method R (frameAt f) S (length m) (length t) (length p) (length k) (length tr) (length e)
-
--- the counts, in the order in which document 01 prints them
-unfoldable pub countsOf : Answer → List ℕ
-countsOf a =
-    a .crossed ∷ a .vertices ∷ a .triangles ∷ a .closed ∷ a .multihole ∷ a .flathole ∷ a .multisurface ∷ a .simple ∷ a .split ∷ a .rounds ∷ []
-
 -- the values at the fourteen ends of a site; one that is not finite is missing
 unfoldable pub endsAt : List Float → List Sample
 endsAt l = each 14 (λ e. whenFinite (sample l e) ∷ [])
+
+-- ---- the promises
+
+-- a call of the build in the lists l, which l′ are afterwards: r is the answer's number, and the list c has its counts
+pub record CallOf (nu nv nw method R : ℕ) (f S : List Float) (l l′ : Lists) (r : ℕ) (c : List ℕ) : Type 0 where
+  pub answer : Answer
+  pub is : BuildIn (record { nu = nu; nv = nv; nw = nw }) method R (frameAt f) S l l′ answer
+  pub status : r ≡ answer .status
+  pub counts : c ≡ countsOf answer
+
+-- a call of the topology test: r is the case's number, and the list c has the clusters
+pub record TopologyTold (mask method : ℕ) (ends : List Float) (r : ℕ) (c : List ℕ) : Type 0 where
+  pub case : r ≡ caseNumber (topologyOf mask (eqb method 1) (endsAt ends) base .case)
+  pub clusters : c ≡ topologyOf mask (eqb method 1) (endsAt ends) base .clusters .masks

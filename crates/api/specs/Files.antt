@@ -3,9 +3,10 @@
 use mathlib.Core.Path.{_≡_}
 use mathlib.Core.List.{List, [], _∷_}
 use Prim.Native.Nat.{ℕ}
-use Rattle.ply.specs.declared.Wrote.{Wrote}
+use Rattle.ply_write.specs.declared.Wrote.{Wrote}
 use Rattle.ply.specs.declared.Counts.{Counts}
-use Rattle.ply.specs.Answers.{WriteOf, SizesOf, ReadOf}
+use Rattle.ply_write.specs.Answers.{WriteOf}
+use Rattle.ply.specs.Answers.{SizesOf, ReadOf}
 
 -- r and the list n are the answer of a writer
 pub record PlyWritten (ws ts l l′ : List ℕ) (r : ℕ) (n : List ℕ) : Type 0 where

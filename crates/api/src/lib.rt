@@ -7,15 +7,13 @@ use points::Point;
 use samples::Sample;
 use volume::Whole;
 ghost use mathlib.Core.Path.{_≡_};
-ghost use lib.Dec.{eqb};
 ghost use Prim.Native.Nat.{_<_};
-ghost use Rattle.samples.specs.Sides.{base, whenFinite};
+ghost use Rattle.samples.specs.Sides.{whenFinite};
 ghost use Rattle.marks.specs.Marks.{sample};
-ghost use Rattle.topology.specs.Topology.{topologyOf, caseNumber};
-ghost use Rattle.pairs.specs.Order.{Sorts};
-ghost use Rattle.build.specs.Answer.{answerOf, masksAfter, tableAfter, positionsAfter, bookAfter, trianglesAfter, edgesAfter};
-ghost use Rattle.ply.specs.Answers.{bitsOf, fileLength};
-ghost use Rattle.api.specs.Calls.{asked, frameAt, countsOf, endsAt};
+ghost use Rattle.sort.specs.Order.{Sorts};
+ghost use Rattle.build.specs.Answer.{lists, countsOf};
+ghost use Rattle.ply_write.specs.Answers.{bitsOf, fileLength};
+ghost use Rattle.api.specs.Calls.{frameAt, endsAt, CallOf, TopologyTold};
 ghost use Rattle.api.specs.Files.{PlyWritten, PlyRead, PlySized};
 ghost use Rattle.api.specs.Volumes.{wholeAt, VolumeTold};
 
@@ -36,7 +34,7 @@ fn frame_at(f: &[f64; 6]) -> Frame
     points::frame_of(origin, step)
 }
 
-// The ten counts, in the order in which document 01 prints them.
+// The ten counts, in the order in which they are printed (docs/SCOPE.md, S10.6).
 fn counts_of(a: Answer) -> [usize; 10]
     ensures { λ r. ⌜ r ≡ countsOf a ⌝ }
 {
@@ -54,7 +52,7 @@ fn counts_of(a: Answer) -> [usize; 10]
     ]
 }
 
-// The build. The answer is document 01's number: 0 done, else a refusal, which leaves the six lists as they were and gives ten zeros.
+// The build. The answer is the number of docs/SCOPE.md, S9.2: 0 done, else a refusal, which leaves the six lists as they were and gives ten zeros.
 #[no_mangle]
 pub extern "C" fn spoonthicket_build(
     nu: usize,
@@ -72,14 +70,7 @@ pub extern "C" fn spoonthicket_build(
     edges: &mut [u32],
     counts: &mut [usize; 10],
 ) -> usize
-    ensures { λ r. ⌜ r ≡ answerOf (asked nu nv nw method rounds (now (frame .entry)) (now (samples .entry)) (now (masks .entry)) (now (table .entry)) (now (vertices .entry)) (now (book .entry)) (now (triangles .entry)) (now (edges .entry))) .status ⌝ }
-    ensures { λ _. ⌜ now (counts .exit) ≡ countsOf (answerOf (asked nu nv nw method rounds (now (frame .entry)) (now (samples .entry)) (now (masks .entry)) (now (table .entry)) (now (vertices .entry)) (now (book .entry)) (now (triangles .entry)) (now (edges .entry)))) ⌝ }
-    ensures { λ _. ⌜ now (masks .exit) ≡ masksAfter (asked nu nv nw method rounds (now (frame .entry)) (now (samples .entry)) (now (masks .entry)) (now (table .entry)) (now (vertices .entry)) (now (book .entry)) (now (triangles .entry)) (now (edges .entry))) (now (masks .entry)) ⌝ }
-    ensures { λ _. ⌜ now (table .exit) ≡ tableAfter (asked nu nv nw method rounds (now (frame .entry)) (now (samples .entry)) (now (masks .entry)) (now (table .entry)) (now (vertices .entry)) (now (book .entry)) (now (triangles .entry)) (now (edges .entry))) (now (table .entry)) ⌝ }
-    ensures { λ _. ⌜ now (vertices .exit) ≡ positionsAfter (asked nu nv nw method rounds (now (frame .entry)) (now (samples .entry)) (now (masks .entry)) (now (table .entry)) (now (vertices .entry)) (now (book .entry)) (now (triangles .entry)) (now (edges .entry))) (now (vertices .entry)) ⌝ }
-    ensures { λ _. ⌜ now (book .exit) ≡ bookAfter (asked nu nv nw method rounds (now (frame .entry)) (now (samples .entry)) (now (masks .entry)) (now (table .entry)) (now (vertices .entry)) (now (book .entry)) (now (triangles .entry)) (now (edges .entry))) (now (book .entry)) ⌝ }
-    ensures { λ _. ⌜ now (triangles .exit) ≡ trianglesAfter (asked nu nv nw method rounds (now (frame .entry)) (now (samples .entry)) (now (masks .entry)) (now (table .entry)) (now (vertices .entry)) (now (book .entry)) (now (triangles .entry)) (now (edges .entry))) (now (triangles .entry)) ⌝ }
-    ensures { λ _. ⌜ now (edges .exit) ≡ edgesAfter (asked nu nv nw method rounds (now (frame .entry)) (now (samples .entry)) (now (masks .entry)) (now (table .entry)) (now (vertices .entry)) (now (book .entry)) (now (triangles .entry)) (now (edges .entry))) (now (edges .entry)) ⌝ }
+    ensures { λ r. ⌜ CallOf nu nv nw method rounds (now (frame .entry)) (now (samples .entry)) (lists (now (masks .entry)) (now (table .entry)) (now (vertices .entry)) (now (book .entry)) (now (triangles .entry)) (now (edges .entry))) (lists (now (masks .exit)) (now (table .exit)) (now (vertices .exit)) (now (book .exit)) (now (triangles .exit)) (now (edges .exit))) r (now (counts .exit)) ⌝ }
 {
     let at = frame_at(frame);
     let answer = build::build(
@@ -107,24 +98,15 @@ fn end_at(ends: &[f64; 14], e: usize) -> Sample
     samples::finite_sample(ends[e])
 }
 
+// The fourteen of them, as the topology test takes them.
 fn ends_at(ends: &[f64; 14]) -> [Sample; 14]
     ensures { λ r. ⌜ r ≡ endsAt (now (ends .entry)) ⌝ }
 {
-    let a = end_at(ends, 0);
-    let b = end_at(ends, 1);
-    let c = end_at(ends, 2);
-    let d = end_at(ends, 3);
-    let e = end_at(ends, 4);
-    let f = end_at(ends, 5);
-    let g = end_at(ends, 6);
-    let h = end_at(ends, 7);
-    let i = end_at(ends, 8);
-    let j = end_at(ends, 9);
-    let k = end_at(ends, 10);
-    let l = end_at(ends, 11);
-    let m = end_at(ends, 12);
-    let o = end_at(ends, 13);
-    [a, b, c, d, e, f, g, h, i, j, k, l, m, o]
+    let mut known = [Sample::Missing; 14];
+    for e in 0..14 {
+        known[e] = end_at(ends, e);
+    }
+    known
 }
 
 // The topology test of one mask: the case's number, and the clusters' masks, zeros behind them.
@@ -135,11 +117,10 @@ pub extern "C" fn spoonthicket_topology(
     ends: &[f64; 14],
     clusters: &mut [u16; 14],
 ) -> usize
-    ensures { λ r. ⌜ r ≡ caseNumber (topologyOf «mask» (eqb method 1) (endsAt (now (ends .entry))) base .case) ⌝ }
-    ensures { λ _. ⌜ now (clusters .exit) ≡ topologyOf «mask» (eqb method 1) (endsAt (now (ends .entry))) base .clusters .masks ⌝ }
+    ensures { λ r. ⌜ TopologyTold «mask» method (now (ends .entry)) r (now (clusters .exit)) ⌝ }
 {
     let known = ends_at(ends);
-    let found = topology::test_topology(mask, method == 1, known, build::THRESHOLD);
+    let found = topology::test_topology(mask, method == 1, known, samples::INSIDE);
     let masks = found.clusters.masks;
     *clusters = masks;
     let case = found.case;
@@ -151,7 +132,7 @@ pub extern "C" fn spoonthicket_topology(
 pub extern "C" fn spoonthicket_sort(words: &mut [u32])
     ensures { λ _. ⌜ Sorts (now (words .entry)) (now (words .exit)) ⌝ }
 {
-    pairs::sort(words);
+    sort::sort(words);
 }
 
 // ---- PLY files
@@ -161,7 +142,7 @@ pub extern "C" fn spoonthicket_sort(words: &mut [u32])
 pub extern "C" fn spoonthicket_ply_length(vertices: usize, faces: usize) -> usize
     ensures { λ r. ⌜ r ≡ fileLength vertices faces ⌝ }
 {
-    ply::length_of(vertices, faces)
+    ply_write::length_of(vertices, faces)
 }
 
 // The file of the words and the triangles, put at the front of `out`. The answer is 0, or a refusal, 10 or 11, which leaves `out` as it was; `written` gets the
@@ -175,7 +156,7 @@ pub extern "C" fn spoonthicket_ply_write(
 ) -> usize
     ensures { λ r. ⌜ PlyWritten (now (words .entry)) (now (triangles .entry)) (now (out .entry)) (now (out .exit)) r (now (written .exit)) ⌝ }
 {
-    let wrote = ply::write(words, triangles, out);
+    let wrote = ply_write::write(words, triangles, out);
     *written = [wrote.length];
     wrote.status
 }
@@ -190,7 +171,7 @@ pub extern "C" fn spoonthicket_ply_mesh(
 ) -> usize
     ensures { λ r. ⌜ PlyWritten (bitsOf (now (vertices .entry))) (now (triangles .entry)) (now (out .entry)) (now (out .exit)) r (now (written .exit)) ⌝ }
 {
-    let drawn = ply::write_mesh(vertices, triangles, out);
+    let drawn = ply_write::write_mesh(vertices, triangles, out);
     *written = [drawn.length];
     drawn.status
 }

@@ -17,7 +17,7 @@ use Rattle.site_vertices.proofs.Appending as appended
 use Rattle.refusals.proofs.Status.{most-most}
 use Rattle.crowded.proofs.Meshes.{corner-low}
 use Rattle.build.specs.declared.Answer.{Answer}
-use Rattle.build.specs.Answer.{Order, status, orderBox, orderVertices, orderPositions, orderTriangles, doneAnswer, refusedAnswer, answerOf, written, positionsAfter, trianglesAfter}
+use Rattle.build.specs.Answer.{Order, status, orderBox, orderVertices, orderPositions, orderTriangles, doneAnswer, refusedAnswer, answerOf, written}
 use Rattle.build.proofs.Answering.{order-granted, done-room}
 use Rattle.lattice.proofs.Sites.{cells-most}
 
@@ -50,20 +50,16 @@ module _ (o : Order) where
 
     -- in a box of the largest sides
     pub vertices-most : length (orderVertices o) ≤ 344064
-    unfolding orderVertices orderBox
     vertices-most = omega (arith, done-room o z .0, most-most (o .sides) (o .samples) (o .threshold) (order-granted o z .fit))
 
     pub triangles-most : length (meshOf (orderBox o) (orderVertices o)) ≤ 357492
-    unfolding orderVertices orderBox
     triangles-most = omega (arith, done-room o z .1, cells-most (o .sides) (order-granted o z .fit), flat-length (meshOf (orderBox o) (orderVertices o)))
 
     -- in the lists that were lent
     pub vertices-lent : 3 * length (orderVertices o) ≤ o .lent .vertices
-    unfolding orderVertices orderBox
     vertices-lent = omega (arith, done-room o z .0, order-granted o z .vertices)
 
     pub triangles-lent : 3 * length (meshOf (orderBox o) (orderVertices o)) ≤ o .lent .triangles
-    unfolding orderVertices orderBox
     triangles-lent = omega (arith, done-room o z .1, order-granted o z .triangles, flat-length (meshOf (orderBox o) (orderVertices o)))
 
     -- ---- positions and triangles, at the fronts of their lists
@@ -88,18 +84,14 @@ module _ (o : Order) where
       reaches : n ≤ length (written o xs l)
       reaches = rw (is-written xs l) (rw length-append (omega arith))
 
-    pub positions-front : (p : List Float) → take (answerOf o .vertices * 3) (positionsAfter o p) ≡ orderPositions o
-    unfolding positionsAfter
+    pub positions-front : (p : List Float) → take (answerOf o .vertices * 3) (written o (orderPositions o) p) ≡ orderPositions o
     positions-front p = front (orderPositions o) p (answerOf o .vertices * 3) positions-are
 
-    pub positions-reach : (p : List Float) → answerOf o .vertices * 3 ≤ length (positionsAfter o p)
-    unfolding positionsAfter
+    pub positions-reach : (p : List Float) → answerOf o .vertices * 3 ≤ length (written o (orderPositions o) p)
     positions-reach p = reaches (orderPositions o) p (answerOf o .vertices * 3) positions-are
 
-    pub triangles-front : (t : List ℕ) → take (answerOf o .triangles * 3) (trianglesAfter o t) ≡ orderTriangles o
-    unfolding trianglesAfter
+    pub triangles-front : (t : List ℕ) → take (answerOf o .triangles * 3) (written o (orderTriangles o) t) ≡ orderTriangles o
     triangles-front t = front (orderTriangles o) t (answerOf o .triangles * 3) corners-are
 
-    pub triangles-reach : (t : List ℕ) → answerOf o .triangles * 3 ≤ length (trianglesAfter o t)
-    unfolding trianglesAfter
+    pub triangles-reach : (t : List ℕ) → answerOf o .triangles * 3 ≤ length (written o (orderTriangles o) t)
     triangles-reach t = reaches (orderTriangles o) t (answerOf o .triangles * 3) corners-are

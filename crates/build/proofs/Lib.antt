@@ -1,10 +1,5 @@
--- The laws of the build: what stands in the lists after a pass, after a round, after all rounds, and at the end.
-pub mod Standing
-pub mod Passes
-pub mod Rounds
-pub mod Settling
-pub mod Making
-pub mod Masks
+-- The laws of the build: the answer and the lists at the end, what stands at the fronts of the lists, and that the promise determines it all.
+pub mod Grants
 pub mod Answering
 pub mod Unique
 pub mod Fronts

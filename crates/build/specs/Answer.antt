@@ -1,7 +1,8 @@
--- What a build answers (document 01, "What a build answers"): a status and counts, and what each of the six lent lists holds afterwards.
+-- What a build answers (docs/SCOPE.md, S9): a status and counts, and what each of the six lent lists holds afterwards.
 -- A refusal has zero for all counts and leaves every list as it was. Assumes nothing.
+use mathlib.Core.Path.{_≡_}
 use mathlib.Core.Bool.{cond}
-use mathlib.Core.List.{List, _++_}
+use mathlib.Core.List.{List, [], _∷_, _++_}
 use Prim.Native.Nat.{ℕ, _*_}
 use lib.Dec.{eqb}
 use lib.ListN.{length, drop, replicate}
@@ -15,7 +16,7 @@ use Rattle.points.specs.declared.Frame.{Frame}
 use Rattle.stages.specs.Boxes.{Box}
 use Rattle.stages.specs.Vertices.{Vertex, candidates}
 use Rattle.stages.specs.Meshes.{tableOf, bookOf, positionsOf, meshOf}
-use Rattle.stages.specs.Splits.{badPairs, split, splitCount}
+use Rattle.stages.specs.Splits.{crowdedPairs, split, splitCount}
 use Rattle.stages.specs.Rounds.{built, roundsDone}
 use Rattle.stages.specs.Samples.{boxOf, positionAt, caseCount}
 use Rattle.refusals.specs.declared.Lengths.{Lengths}
@@ -32,17 +33,9 @@ pub record Order : Type 0 where
   pub lent : Lengths
   pub threshold : Float
 
--- an order with document 01's threshold
-abbrev pub order : Sides → ℕ → ℕ → Frame → List Float → (masks table vertices book triangles edges : ℕ) → Order
-order n method R f S m t p k tr e = record {
-  sides = n;
-  method = method;
-  rounds = R;
-  frame = f;
-  samples = S;
-  lent = record { masks = m; table = t; vertices = p; book = k; triangles = tr; edges = e };
-  threshold = base;
-}
+-- an order with the threshold of docs/SCOPE.md, S3.1, in lists of such lengths
+abbrev pub order : Sides → ℕ → ℕ → Frame → List Float → Lengths → Order
+order n method R f S L = record { sides = n; method = method; rounds = R; frame = f; samples = S; lent = L; threshold = base }
 
 abbrev pub status : Order → ℕ
 status o = statusOf (o .sides) (o .method) (o .rounds) (o .frame) (o .samples) (o .lent) (o .threshold)
@@ -69,7 +62,7 @@ doneAnswer o = record {
   flathole = orderCases o 2;
   multisurface = orderCases o 3;
   simple = orderCases o 4;
-  split = splitCount (badPairs (orderBox o)) 0 (candidates (orderBox o));
+  split = splitCount (crowdedPairs (orderBox o)) 0 (candidates (orderBox o));
   rounds = roundsDone (orderBox o) (o .rounds) 1 (split (orderBox o));
 }
 
@@ -91,6 +84,10 @@ refusedAnswer k = record {
 unfoldable pub answerOf : Order → Answer
 answerOf o = cond (eqb (status o) 0) (doneAnswer o) (refusedAnswer (status o))
 
+-- the ten counts, in the order in which they are printed
+unfoldable pub countsOf : Answer → List ℕ
+countsOf a = a .crossed ∷ a .vertices ∷ a .triangles ∷ a .closed ∷ a .multihole ∷ a .flathole ∷ a .multisurface ∷ a .simple ∷ a .split ∷ a .rounds ∷ []
+
 -- ---- the lists
 
 -- xs in front, behind it l as it was
@@ -100,9 +97,6 @@ overlaid xs l = xs ++ drop (length xs) l
 -- done, the list begins with xs; refused, it is as lent
 abbrev pub written : {A : Type 0} → Order → List A → List A → List A
 written o xs l = cond (eqb (status o) 0) (overlaid xs l) l
-
-abbrev pub orderMasks : Order → List ℕ
-orderMasks o = masksOf (o .sides) (o .samples) (o .threshold)
 
 -- at 7 * site + label the vertex of that owned edge, or 0xFFFFFFFF
 abbrev pub orderTable : Order → List ℕ
@@ -116,28 +110,6 @@ orderBook o = bookOf (orderVertices o)
 
 abbrev pub orderTriangles : Order → List ℕ
 orderTriangles o = flat (meshOf (orderBox o) (orderVertices o))
-
--- zeros over the first 108 a cell
-abbrev pub orderEdges : Order → List ℕ
-orderEdges o = replicate (108 * cells (o .sides)) 0
-
-unfoldable pub masksAfter : Order → List ℕ → List ℕ
-masksAfter o l = written o (orderMasks o) l
-
-unfoldable pub tableAfter : Order → List ℕ → List ℕ
-tableAfter o l = written o (orderTable o) l
-
-unfoldable pub positionsAfter : Order → List Float → List Float
-positionsAfter o l = written o (orderPositions o) l
-
-unfoldable pub bookAfter : Order → List ℕ → List ℕ
-bookAfter o l = written o (orderBook o) l
-
-unfoldable pub trianglesAfter : Order → List ℕ → List ℕ
-trianglesAfter o l = written o (orderTriangles o) l
-
-unfoldable pub edgesAfter : Order → List ℕ → List ℕ
-edgesAfter o l = written o (orderEdges o) l
 
 -- ---- the six lists together
 
@@ -162,6 +134,19 @@ lengthsOf l = record {
   edges = length (l .edges);
 }
 
+-- masks, table, positions, book and triangles in front, and zeros over the first 108 words a cell of the edge list
 abbrev pub listsAfter : Order → Lists → Lists
 listsAfter o l =
-    lists (masksAfter o (l .masks)) (tableAfter o (l .table)) (positionsAfter o (l .positions)) (bookAfter o (l .book)) (trianglesAfter o (l .triangles)) (edgesAfter o (l .edges))
+    lists (written o (masksOf (o .sides) (o .samples) (o .threshold)) (l .masks)) (written o (orderTable o) (l .table)) (written o (orderPositions o) (l .positions))
+    (written o (orderBook o) (l .book)) (written o (orderTriangles o) (l .triangles)) (written o (replicate (108 * cells (o .sides)) 0) (l .edges))
+
+-- ---- the promise
+
+-- a build of the order o in the lists l, which l′ are afterwards
+pub record BuildOf (o : Order) (l l′ : Lists) (a : Answer) : Type 0 where
+  pub answer : a ≡ answerOf o
+  pub after : l′ ≡ listsAfter o l
+
+-- the same of what a caller hands over
+abbrev pub BuildIn : Sides → ℕ → ℕ → Frame → List Float → Lists → Lists → Answer → Type 0
+BuildIn n method R f S l l′ a = BuildOf (order n method R f S (lengthsOf l)) l l′ a

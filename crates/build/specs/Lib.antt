@@ -1,3 +1,3 @@
--- What a build answers, and what stands in the lent lists from stage to stage.
+-- What a build answers, and what it promises.
 pub mod Answer
-pub mod Standing
+pub mod Inner

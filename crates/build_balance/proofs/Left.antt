@@ -26,74 +26,71 @@ use Rattle.stages.proofs.Demand.{book-crossed, crossed-held, table-names}
 use Rattle.stages.proofs.Stages.{built-stage}
 use Rattle.stages.proofs.Table.{table-length}
 use Rattle.build.specs.declared.Answer.{Answer}
-use Rattle.build.specs.Answer.{Order, bookAfter, doneAnswer, orderBook, orderBox, orderTable, orderTriangles, orderVertices, tableAfter, trianglesAfter}
+use Rattle.build.specs.Answer.{Order, Lists, doneAnswer, orderBook, orderBox, orderTable, orderTriangles, orderVertices}
 use Rattle.build.proofs.Answering.{order-granted}
 use Rattle.build.proofs.Fronts.{is-done, is-written}
 use Rattle.build_balance.specs.Border.{OneSide}
 use Rattle.build_balance.specs.Left.{Left}
 use Rattle.build_balance.proofs.Surface.{built-closed, stage-balanced}
 
-module _ (o : Order) (t k tr : List ℕ) (z : Answer) (t′ k′ tr′ : List ℕ) (D : Left o t k tr z t′ k′ tr′) (F : AllFinite (o .sides) (o .samples)) where
+module _ (o : Order) (l l′ : Lists) (z : Answer) (D : Left o l l′ z) (F : AllFinite (o .sides) (o .samples)) where
   fit : SidesFit (o .sides)
   fit = order-granted o (D .granted) .fit
 
   done : z ≡ doneAnswer o
-  done = D .answer ∙ is-done o (D .granted)
+  done = D .built .answer ∙ is-done o (D .granted)
 
-  book-is : k′ ≡ orderBook o ++ drop (length (orderBook o)) k
-  unfolding bookAfter
-  book-is = D .book ∙ is-written o (D .granted) (orderBook o) k
+  book-is : (l′ .book) ≡ orderBook o ++ drop (length (orderBook o)) (l .book)
+  book-is = ap (λ (y : Lists). y .book) (D .built .after) ∙ is-written o (D .granted) (orderBook o) (l .book)
 
-  table-is : t′ ≡ orderTable o ++ drop (length (orderTable o)) t
-  unfolding tableAfter
-  table-is = D .table ∙ is-written o (D .granted) (orderTable o) t
+  table-is : (l′ .table) ≡ orderTable o ++ drop (length (orderTable o)) (l .table)
+  table-is = ap (λ (y : Lists). y .table) (D .built .after) ∙ is-written o (D .granted) (orderTable o) (l .table)
 
-  triangles-are : tr′ ≡ orderTriangles o ++ drop (length (orderTriangles o)) tr
-  unfolding trianglesAfter
-  triangles-are = D .triangles ∙ is-written o (D .granted) (orderTriangles o) tr
+  triangles-are : (l′ .triangles) ≡ orderTriangles o ++ drop (length (orderTriangles o)) (l .triangles)
+  triangles-are = ap (λ (y : Lists). y .triangles) (D .built .after) ∙ is-written o (D .granted) (orderTriangles o) (l .triangles)
 
   -- THE HELD COUNTS OF THE BOOK ADD UP TO THE CROSSINGS
-  pub left-held : sum (z .vertices) (λ i. getD k′ (4 * i + 1) 0) ≡ crossedCount (o .sides) (o .samples) (o .threshold)
+  pub left-held : sum (z .vertices) (λ i. getD (l′ .book) (4 * i + 1) 0) ≡ crossedCount (o .sides) (o .samples) (o .threshold)
   unfolding orderVertices orderBox doneAnswer
   left-held =
       let vs = built (boxOf (o .sides) (o .samples) (o .threshold) (eqb (o .method) 1)) (o .rounds) in
-      ap (λ (y : Answer). sum (y .vertices) (λ i. getD k′ (4 * i + 1) 0)) done
-      ∙ sum-same (length vs) (λ i. getD k′ (4 * i + 1) 0) (λ i. getD (bookOf vs) (4 * i + 1) 0)
-      (λ i b. ap (λ (y : List ℕ). getD y (4 * i + 1) 0) book-is ∙ List·getD-append (bookOf vs) (drop (length (bookOf vs)) k) 0 (4 * i + 1) (omega (arith, book-length vs)))
+      ap (λ (y : Answer). sum (y .vertices) (λ i. getD (l′ .book) (4 * i + 1) 0)) done
+      ∙ sum-same (length vs) (λ i. getD (l′ .book) (4 * i + 1) 0) (λ i. getD (bookOf vs) (4 * i + 1) 0)
+      (λ i b. ap (λ (y : List ℕ). getD y (4 * i + 1) 0) book-is ∙ List·getD-append (bookOf vs) (drop (length (bookOf vs)) (l .book)) 0 (4 * i + 1) (omega (arith, book-length vs)))
       ∙ book-crossed (o .sides) (o .samples) (o .threshold) (eqb (o .method) 1) fit F (built-stage (boxOf (o .sides) (o .samples) (o .threshold) (eqb (o .method) 1)) (o .rounds))
 
   -- EVERY CROSSED EDGE IS HELD BY ONE VERTEX, AND THE TABLE NAMES IT
-  pub left-names : (s l : ℕ) → s < sites (o .sides) → l < 7 → isCrossed (o .sides) (o .samples) (o .threshold) s l ≡ true
-      → (h : Held (orderBox o) (orderVertices o) (7 * s + l)) × (getD t′ (7 * s + l) none ≡ h .vertex)
+  pub left-names : (s e : ℕ) → s < sites (o .sides) → e < 7 → isCrossed (o .sides) (o .samples) (o .threshold) s e ≡ true
+      → (h : Held (orderBox o) (orderVertices o) (7 * s + e)) × (getD (l′ .table) (7 * s + e) none ≡ h .vertex)
   unfolding orderVertices orderBox boxOf
-  left-names s l hs hl c =
+  left-names s e hs he c =
       let b = boxOf (o .sides) (o .samples) (o .threshold) (eqb (o .method) 1) in
       let st = built-stage b (o .rounds) in (
-        crossed-held (o .sides) (o .samples) (o .threshold) (eqb (o .method) 1) fit F st s l hs hl c,
-        ap (λ (y : List ℕ). getD y (7 * s + l) none) table-is
-            ∙ List·getD-append (tableOf b (built b (o .rounds))) (drop (length (tableOf b (built b (o .rounds)))) t) none (7 * s + l) low
-            ∙ table-names (o .sides) (o .samples) (o .threshold) (eqb (o .method) 1) fit F st s l hs hl c,
+        crossed-held (o .sides) (o .samples) (o .threshold) (eqb (o .method) 1) fit F st s e hs he c,
+        ap (λ (y : List ℕ). getD y (7 * s + e) none) table-is
+            ∙ List·getD-append (tableOf b (built b (o .rounds))) (drop (length (tableOf b (built b (o .rounds)))) (l .table)) none (7 * s + e) low
+            ∙ table-names (o .sides) (o .samples) (o .threshold) (eqb (o .method) 1) fit F st s e hs he c,
       )
     where
-      low : 7 * s + l < length (orderTable o)
-      low = omega (arith, table-length (orderBox o) (orderVertices o), hs, hl)
+      low : 7 * s + e < length (orderTable o)
+      low = omega (arith, table-length (orderBox o) (orderVertices o), hs, he)
 
   -- THE TRIANGLE LIST BEGINS WITH THE SURFACE'S TRIANGLES
-  pub left-triangles : take (3 * z .triangles) tr′ ≡ orderTriangles o
+  pub left-triangles : take (3 * z .triangles) (l′ .triangles) ≡ orderTriangles o
   unfolding doneAnswer
   left-triangles =
       let n : 3 * z .triangles ≡ length (orderTriangles o) = ap (λ (y : Answer). 3 * y .triangles) done ∙ omega (arith, flat-length (meshOf (orderBox o) (orderVertices o))) in
-      (λ i. take (n i) (triangles-are i)) ∙ take-append-seam (orderTriangles o) (drop (length (orderTriangles o)) tr)
+      (λ i. take (n i) (triangles-are i)) ∙ take-append-seam (orderTriangles o) (drop (length (orderTriangles o)) (l .triangles))
 
   module _ (side : Bool) (B : OneSide (o .sides) (o .samples) (o .threshold) side) where
     -- AS MANY TRIANGLES RUN ONE WAY AS THE OTHER
-    pub left-closed : (ts : List Tri) → take (3 * z .triangles) tr′ ≡ flat ts → (p q : ℕ) → count (runs p q) ts ≡ count (runs q p) ts
+    pub left-closed : (ts : List Tri) → take (3 * z .triangles) (l′ .triangles) ≡ flat ts → (p q : ℕ) → count (runs p q) ts ≡ count (runs q p) ts
     unfolding orderVertices orderBox
     left-closed ts e p q =
         let same : ts ≡ meshOf (orderBox o) (orderVertices o) = flat-same ts (meshOf (orderBox o) (orderVertices o)) (sym e ∙ left-triangles) in
         ap (count (runs p q)) same ∙ built-closed (o .sides) (o .samples) (o .threshold) (eqb (o .method) 1) side fit F B (o .rounds) p q ∙ ap (count (runs q p)) (sym same)
 
-    pub left-balanced : Balanced (trisOf (take (3 * z .triangles) tr′))
+    pub left-balanced : Balanced (trisOf (take (3 * z .triangles) (l′ .triangles)))
     unfolding orderVertices orderBox
     left-balanced =
         subst Balanced (sym (ap trisOf left-triangles ∙ tris-flat (meshOf (orderBox o) (orderVertices o))))

@@ -3,7 +3,7 @@
 use mathlib.Core.Path.{_≡_, refl, sym, ap, _∙_}
 use mathlib.Core.Bool.{Bool, true}
 use mathlib.Core.List.{List}
-use Prim.Native.Nat.{ℕ, _*_, _/_}
+use Prim.Native.Nat.{_*_, _/_}
 use native.Mathlib.Omega.{arith}
 use lib.ListN.{length, take}
 use lib.Ieee.{Float}
@@ -13,7 +13,7 @@ use Rattle.laws.proofs.Triangles.{flat-length, tris-flat}
 use Rattle.stages.specs.Meshes.{meshOf}
 use Rattle.stages.specs.Samples.{AllFinite}
 use Rattle.build.specs.declared.Answer.{Answer}
-use Rattle.build.specs.Answer.{Order, status, orderBox, orderVertices, orderPositions, orderTriangles}
+use Rattle.build.specs.Answer.{Order, Lists, status, orderBox, orderVertices, orderPositions, orderTriangles}
 use Rattle.build.proofs.Fronts.{triangles-most, positions-three, corners-below}
 use Rattle.volume.specs.declared.Whole.{Whole}
 use Rattle.volume.specs.Volume.{listsOk, scaleOk, summed, volumeOf}
@@ -46,9 +46,9 @@ module _ (o : Order) (z : status o ≡ 0) where
 
 -- ---- the lists that a build leaves
 
-module _ (o : Order) (t k tr : List ℕ) (z : Answer) (t′ k′ tr′ : List ℕ) (D : Left o t k tr z t′ k′ tr′) (F : AllFinite (o .sides) (o .samples)) (side : Bool)
+module _ (o : Order) (l l′ : Lists) (z : Answer) (D : Left o l l′ z) (F : AllFinite (o .sides) (o .samples)) (side : Bool)
     (B : OneSide (o .sides) (o .samples) (o .threshold) side) where
   -- MOVING THE WHOLE ORIGIN, for every list of positions, every scale and every two origins
-  pub left-moved : (P : List Float) (s : Float) (a c : Whole) → volumeOf P (take (3 * z .triangles) tr′) s a .status ≡ 0 → volumeOf P (take (3 * z .triangles) tr′) s c .status ≡ 0
-      → volumeOf P (take (3 * z .triangles) tr′) s a ≡ volumeOf P (take (3 * z .triangles) tr′) s c
-  left-moved P s a c = volume-moved P s a c (take (3 * z .triangles) tr′) (left-balanced o t k tr z t′ k′ tr′ D F side B)
+  pub left-moved : (P : List Float) (s : Float) (a c : Whole) → volumeOf P (take (3 * z .triangles) (l′ .triangles)) s a .status ≡ 0 → volumeOf P (take (3 * z .triangles) (l′ .triangles)) s c .status ≡ 0
+      → volumeOf P (take (3 * z .triangles) (l′ .triangles)) s a ≡ volumeOf P (take (3 * z .triangles) (l′ .triangles)) s c
+  left-moved P s a c = volume-moved P s a c (take (3 * z .triangles) (l′ .triangles)) (left-balanced o l l′ z D F side B)

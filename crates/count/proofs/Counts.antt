@@ -4,16 +4,16 @@ use mathlib.Core.List.{List}
 use Prim.Native.Nat.{ℕ, _<_}
 use native.Mathlib.Omega.{arith}
 use lib.ListN.{length}
-use Rattle.laws.specs.Written.{Written}
 use Rattle.laws.proofs.Written.{written-unique}
-use Rattle.lines.specs.CountFile.{CountFile, headForm}
-use Rattle.lines.specs.Answer.{refusalText}
-use Rattle.lines.proofs.Files.{file-unique, file-longest}
+use Rattle.count_file.specs.declared.Head.{Head}
+use Rattle.count_file.specs.CountFile.{CountFile}
+use Rattle.lines.specs.Status.{refusalText}
+use Rattle.count_file.proofs.Files.{file-unique, file-longest}
 use Rattle.count.specs.Count.{fileAnswer, Counted, file, none, Answered}
 
 pub counted-unique : {s t u : List ℕ} → Counted s t → Counted s u → t ≡ u
-counted-unique {s} (file {vs = vs} {ss = ss} f) (file {vs = ws} {ss = rs} g) =
-    let u = file-unique headForm s vs ss ws rs f g in
+counted-unique {s} (file {h = h} {ss = ss} f) (file {h = k} {ss = rs} g) =
+    let u = file-unique s h ss k rs f g in
     ap₂ fileAnswer (u .0) (u .1)
 counted-unique (file f) (none z) = absurd (z _ _ f)
 counted-unique (none z) (file f) = absurd (z _ _ f)
@@ -23,12 +23,12 @@ pub answered-unique : (s l l′ l″ : List ℕ) (r q : ℕ) → Answered s l l�
 answered-unique s l l′ l″ r q a b = written-unique (rw (counted-unique (a .counted) (b .counted)) at (a .put)) (b .put)
 
 -- what is printed for a file is what its values give, and for anything else `status=8`
-pub counted-file : {s t : List ℕ} (vs ss : List ℕ) → CountFile s vs ss → Counted s t → t ≡ fileAnswer vs ss
-counted-file vs ss f c = counted-unique c (file f)
+pub counted-file : {s t : List ℕ} (h : Head) (ss : List ℕ) → CountFile s h ss → Counted s t → t ≡ fileAnswer h ss
+counted-file h ss f c = counted-unique c (file f)
 
-pub counted-none : {s t : List ℕ} → ((vs ss : List ℕ) → CountFile s vs ss → ⊥) → Counted s t → t ≡ refusalText 8
+pub counted-none : {s t : List ℕ} → ((h : Head) (ss : List ℕ) → CountFile s h ss → ⊥) → Counted s t → t ≡ refusalText 8
 counted-none z c = counted-unique c (none z)
 
 -- no count file is longer than 4,321 bytes
 pub counted-long : {s t : List ℕ} → 4321 < length s → Counted s t → t ≡ refusalText 8
-counted-long {s} h c = counted-none (λ vs ss f. let l = file-longest s vs ss f in omega arith) c
+counted-long {s} h c = counted-none (λ k ss f. let l = file-longest s k ss f in omega arith) c

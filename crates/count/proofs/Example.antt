@@ -1,8 +1,9 @@
--- Document 01's example: what is printed for its file, computed from the definition of the build. Assumes nothing.
+-- The example (docs/SCOPE.md, S10.6): what is printed for its file, computed from the definition of the build. Assumes nothing.
 use mathlib.Core.Path.{_≡_, refl, ap, _∙_}
 use mathlib.Core.List.{List}
 use Prim.Native.Nat.{ℕ}
-use lib.Ieee.{le, round}
+use lib.Ieee.{le}
+use Rattle.points.specs.Positions.{frameOf}
 use Rattle.points.specs.Limits.{originOk, stepOk, originsOk, stepsOk, frameOk}
 use Rattle.lattice.specs.Sites.{sideOk, sidesOk, cells}
 use Rattle.refusals.specs.Refusals.{settingsOk, siteRoom, vertexRoom, cellRoom, most, statusOf}
@@ -10,17 +11,18 @@ use Rattle.stages.proofs.Examples.{stagesKey}
 use Rattle.topology.specs.Topology.{caseNumber}
 use Rattle.stages.specs.Samples.{isCase, caseCount}
 use Rattle.build.specs.declared.Answer.{Answer}
-use Rattle.build.specs.Answer.{orderBox, orderVertices, orderCases, doneAnswer, refusedAnswer, answerOf}
-use Rattle.lines.specs.Example.{exampleHead, exampleSamples, exampleFile, exampleAnswer, answer-is}
-use Rattle.lines.proofs.Example.{example-file}
-use Rattle.count.specs.Count.{headSides, pointOf, headFrame, floatsOf, workOrder, countsOf, printed, fileAnswer, Counted}
+use Rattle.build.specs.Answer.{orderBox, orderVertices, orderCases, doneAnswer, refusedAnswer, answerOf, countsOf}
+use Rattle.count_file.specs.Example.{exampleHead, exampleSamples, exampleFile, exampleAnswer, answer-is}
+use Rattle.count_file.proofs.Example.{example-file}
+use Rattle.file_build.specs.Asked.{headSides, pointOf, headFrame, floatsOf, workOrder}
+use Rattle.count.specs.Count.{printed, fileAnswer, Counted}
 use Rattle.count.proofs.Counts.{counted-file}
 
 abbrev counts : Answer
 counts = record { status = 0; crossed = 14; vertices = 8; triangles = 12; closed = 0; multihole = 0; flathole = 0; multisurface = 0; simple = 8; split = 0; rounds = 0 }
 
 example-build : answerOf (workOrder exampleHead (floatsOf exampleSamples)) ≡ counts
-unfolding stagesKey le originOk stepOk originsOk stepsOk frameOk sideOk sidesOk cells settingsOk siteRoom vertexRoom cellRoom most statusOf caseNumber isCase caseCount orderBox orderVertices orderCases doneAnswer refusedAnswer answerOf headSides pointOf headFrame floatsOf
+unfolding stagesKey le originOk stepOk originsOk stepsOk frameOk sideOk sidesOk cells settingsOk siteRoom vertexRoom cellRoom most statusOf caseNumber isCase caseCount orderBox orderVertices orderCases doneAnswer refusedAnswer answerOf headSides pointOf frameOf headFrame floatsOf
 example-build = refl
 
 pub example-printed : (t : List ℕ) → Counted exampleFile t → t ≡ exampleAnswer

@@ -1,6 +1,4 @@
 -- Laws of the count program.
-pub mod Building
 pub mod Counts
-pub mod Status
+pub mod Shown
 pub mod Example
-pub mod Told

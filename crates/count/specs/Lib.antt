@@ -1,3 +1,2 @@
 -- What the count program prints.
 pub mod Count
-pub mod Told

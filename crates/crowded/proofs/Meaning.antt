@@ -16,10 +16,10 @@ use Rattle.laws.specs.Ranges.{any, each, fold}
 use Rattle.laws.proofs.Bools.{and-apart, and-yes, bool-ext}
 use Rattle.laws.proofs.Ranges.{eq-or, each-same, each-one-length, each-one-at, any-some, any-one, any-same}
 use Rattle.laws.proofs.Tails.{back-before, back-from, set-behind}
-use Rattle.pairs.specs.Sides.{next, over, overFlags}
-use Rattle.pairs.proofs.Sides.{flags-length, over-flag-at}
+use Rattle.pairs.specs.Sides.{next, crowded, crowdedFlags}
+use Rattle.pairs.proofs.Sides.{flags-length, crowded-flag-at}
 use Rattle.crowded.specs.Inner.Flags.{Flaggable, fitting, reach, sideFlags, frontFlags, withFlags, endIn, clusterIn, ownerIn}
-use Rattle.crowded.specs.Inner.Turns.{Ready, mark, endTurn, badAt, wanted, ownerTurn}
+use Rattle.crowded.specs.Inner.Turns.{Ready, mark, endTurn, crowdedAt, wanted, ownerTurn}
 
 -- ---- the list as it is prepared
 
@@ -34,21 +34,21 @@ module _ (s room : List ℕ) (a : ℕ) (F : Flaggable s room a) (v : ℕ) where
   reach-high : reach s v room ≤ length room
   reach-high = fits-low v (length s * 3) room (F .nine)
 
-  zeros-length : length (overFlags s ++ replicate (reach s v room - length s) 0) ≡ reach s v room
+  zeros-length : length (crowdedFlags s ++ replicate (reach s v room - length s) 0) ≡ reach s v room
   zeros-length =
-      omega (arith, flags-length s, length-append (overFlags s) (replicate (reach s v room - length s) 0), length-replicate {A = ℕ} (reach s v room - length s) 0)
+      omega (arith, flags-length s, length-append (crowdedFlags s) (replicate (reach s v room - length s) 0), length-replicate {A = ℕ} (reach s v room - length s) 0)
 
   pub sides-length : length (sideFlags s v room) ≡ length room
   unfolding sideFlags
   sides-length =
-      length-append (overFlags s ++ replicate (reach s v room - length s) 0) (drop (reach s v room) room)
+      length-append (crowdedFlags s ++ replicate (reach s v room - length s) 0) (drop (reach s v room) room)
       ∙ omega (arith, zeros-length, length-drop (reach s v room) room, reach-high)
 
-  flag-at : (k : ℕ) → k < length s → getD (sideFlags s v room) k 0 ≡ bit (over s k)
+  flag-at : (k : ℕ) → k < length s → getD (sideFlags s v room) k 0 ≡ bit (crowded s k)
   unfolding sideFlags
   flag-at k h =
-      List·getD-append (overFlags s ++ replicate (reach s v room - length s) 0) (drop (reach s v room) room) 0 k (omega (arith, zeros-length))
-      ∙ List·getD-append (overFlags s) (replicate (reach s v room - length s) 0) 0 k (omega (arith, flags-length s)) ∙ over-flag-at s k h
+      List·getD-append (crowdedFlags s ++ replicate (reach s v room - length s) 0) (drop (reach s v room) room) 0 k (omega (arith, zeros-length))
+      ∙ List·getD-append (crowdedFlags s) (replicate (reach s v room - length s) 0) 0 k (omega (arith, flags-length s)) ∙ crowded-flag-at s k h
 
 -- ---- flags behind a
 
@@ -92,12 +92,12 @@ module _ (q : List ℕ) (a m : ℕ) where
     fold-flags turn e t (suc n) = ap (turn n) (fold-flags turn e t n) ∙ t n (λ v. any n (λ k. e k v))
 
     end-flags : (s : List ℕ) (k : ℕ) (p : ℕ → Bool)
-        → endTurn s a k (frontFlags q a m p) ≡ frontFlags q a m (λ v. p v || (over s k && (eqb v (getD s k 0) || eqb v (getD s (next k) 0))))
+        → endTurn s a k (frontFlags q a m p) ≡ frontFlags q a m (λ v. p v || (crowded s k && (eqb v (getD s k 0) || eqb v (getD s (next k) 0))))
     unfolding endTurn
     end-flags s k p =
-        ap (mark a (over s k) (getD s (next k) 0)) (mark-flags (over s k) (getD s k 0) p)
-        ∙ mark-flags (over s k) (getD s (next k) 0) (λ v. p v || (over s k && eqb v (getD s k 0)))
-        ∙ flags-same _ _ (λ v. both (p v) (over s k) (eqb v (getD s k 0)) (eqb v (getD s (next k) 0)))
+        ap (mark a (crowded s k) (getD s (next k) 0)) (mark-flags (crowded s k) (getD s k 0) p)
+        ∙ mark-flags (crowded s k) (getD s (next k) 0) (λ v. p v || (crowded s k && eqb v (getD s k 0)))
+        ∙ flags-same _ _ (λ v. both (p v) (crowded s k) (eqb v (getD s k 0)) (eqb v (getD s (next k) 0)))
       where
         both : (c o x y : Bool) → (c || (o && x)) || (o && y) ≡ c || (o && (x || y))
         both c true x y = or-assoc c x y
@@ -156,10 +156,10 @@ by-triangles s whole o c =
 
 -- corner by corner, the owners
 pub owner-corners : (s book : List ℕ) → length s % 3 ≡ 0 → (v : ℕ) → any (length s) (λ k. wanted s book k && eqb v (getD book (4 * getD s k 0) 0)) ≡ ownerIn s book v
-unfolding wanted badAt ownerIn clusterIn
+unfolding wanted crowdedAt ownerIn clusterIn
 owner-corners s book whole v =
-    any-same (length s) _ _ (λ k h. and-assoc (badAt s k) (ltb 1 (getD book (4 * getD s k 0 + 1) 0)) (eqb v (getD book (4 * getD s k 0) 0)))
-    ∙ by-triangles s whole (over s) (λ k. clusterIn book v (getD s k 0))
+    any-same (length s) _ _ (λ k h. and-assoc (crowdedAt s k) (ltb 1 (getD book (4 * getD s k 0 + 1) 0)) (eqb v (getD book (4 * getD s k 0) 0)))
+    ∙ by-triangles s whole (crowded s) (λ k. clusterIn book v (getD s k 0))
 
 -- ---- what the loops leave, and what they say
 
@@ -189,7 +189,7 @@ module _ (s room : List ℕ) (a : ℕ) (F : Flaggable s room a) (v m : ℕ) (fit
   low = omega (arith, F .within, sides-length s room a F v)
 
   -- the words from a on are cleared
-  prepared : (front end : List ℕ) → front ≡ overFlags s ++ replicate (length (take (reach s v room) room) - length s) 0
+  prepared : (front end : List ℕ) → front ≡ crowdedFlags s ++ replicate (length (take (reach s v room) room) - length s) 0
       → end ≡ replicate (length (take m (drop a (front ++ drop (reach s v room) room)))) 0
       → putMid a m (front ++ drop (reach s v room) room) end ≡ withFlags (sideFlags s v room) a m (λ _. false)
   unfolding sideFlags
@@ -197,7 +197,7 @@ module _ (s room : List ℕ) (a : ℕ) (F : Flaggable s room a) (v m : ℕ) (fit
       let q : List ℕ = sideFlags s v room in
       let l : List ℕ = front ++ drop (reach s v room) room in
       let is : l ≡ q =
-      ap (λ (x : List ℕ). x ++ drop (reach s v room) room) (e ∙ ap (λ (k : ℕ). overFlags s ++ replicate (k - length s) 0) (length-take-le (reach s v room) room (reach-high s room a F v))) in
+      ap (λ (x : List ℕ). x ++ drop (reach s v room) room) (e ∙ ap (λ (k : ℕ). crowdedFlags s ++ replicate (k - length s) 0) (length-take-le (reach s v room) room (reach-high s room a F v))) in
       let n : length (take m (drop a l)) ≡ m = length-take-le m (drop a l) (omega (arith, length-drop a l, ap length is, sides-length s room a F v)) in
       let z : end ≡ each m (λ _. bit false ∷ []) = f ∙ ap (λ (k : ℕ). replicate k 0) n ∙ flags-none m in
       ap₂ (λ (x y : List ℕ). take a x ++ (y ++ drop m (drop a x))) is z
@@ -247,7 +247,7 @@ behind-start a y = omega arith
 
 -- the same with the numbers as they are found: x words to count by, y flags
 pub prepared-by : (s room : List ℕ) (a : ℕ) → Flaggable s room a → (v m x y : ℕ) → x ≡ fitting v (length s * 3) room
-    → (front end : List ℕ) → front ≡ overFlags s ++ replicate (length (take (length s * 3 + x) room) - length s) 0 → length front ≡ length (take (length s * 3 + x) room)
+    → (front end : List ℕ) → front ≡ crowdedFlags s ++ replicate (length (take (length s * 3 + x) room) - length s) 0 → length front ≡ length (take (length s * 3 + x) room)
     → y ≡ min m (length (front ++ drop (length s * 3 + x) room) - a)
     → end ≡ replicate (length (take (a + y - a) (drop a (front ++ drop (length s * 3 + x) room)))) 0
     → putMid a (a + y - a) (front ++ drop (length s * 3 + x) room) end ≡ withFlags (sideFlags s v room) a (fitting m a room) (λ _. false)

@@ -1,4 +1,4 @@
--- What is rolled back, by the flags of the owners, read from the vertex book: the owners of a round. No side that is over, no owner. Assumes nothing.
+-- What is rolled back, by the flags of the owners, read from the vertex book: the owners of a round. No side that is crowded, no owner. Assumes nothing.
 use mathlib.Core.Path.{_≡_, refl, sym, ap, _∙_}
 use mathlib.Core.Logic.{⊎-elim}
 use mathlib.Core.Bool.{Bool, true, false, _&&_, _||_, false≢true}
@@ -17,11 +17,11 @@ use Rattle.laws.proofs.Lists.{all-member, all-of, all-under}
 use Rattle.laws.proofs.Ranges.{any-none, any-one, any-same, each-all, lt-or}
 use Rattle.laws.proofs.Triangles.{flat-length}
 use Rattle.lattice.specs.Sites.{cells, sites}
-use Rattle.pairs.specs.Sides.{over}
+use Rattle.pairs.specs.Sides.{crowded}
 use Rattle.stages.specs.Boxes.{Box}
 use Rattle.stages.specs.Vertices.{Vertex, apart, candidates, filled, fresh, held, nobody, several, siteVertices}
 use Rattle.stages.specs.Meshes.{bookOf, meshOf}
-use Rattle.stages.specs.Rounds.{bads, clusterOf, isIn, owners, owns, retired}
+use Rattle.stages.specs.Rounds.{crowdedTris, clusterOf, isIn, owners, owns, retired}
 use Rattle.stages.specs.Stages.{Stage}
 use Rattle.stages.proofs.Book.{book-length, book-row, cluster-book}
 use Rattle.stages.proofs.Flags.{owns-are}
@@ -54,7 +54,7 @@ module _ (b : Box) (vs : List Vertex) where
 
   module _ (book : List ℕ) (room : 4 * length vs ≤ length book) where
     -- THE FLAG OF A SITE SAYS WHETHER IT OWNS A LIVE CLUSTER VERTEX IN A BAD TRIANGLE
-    pub owners-flagged : (s : ℕ) → owns vs (bads (meshOf b vs)) s ≡ ownerIn (flat (meshOf b vs)) (sets book 0 (bookOf vs)) s
+    pub owners-flagged : (s : ℕ) → owns vs (crowdedTris (meshOf b vs)) s ≡ ownerIn (flat (meshOf b vs)) (sets book 0 (bookOf vs)) s
     unfolding ownerIn
     owners-flagged s =
         let n : length (meshOf b vs) ≡ length corners / 3 = omega (arith, flat-length (meshOf b vs)) in
@@ -64,8 +64,8 @@ module _ (b : Box) (vs : List Vertex) where
         let c0 = cluster-at vs book room s (getD corners (3 * t) 0) (corner-low b vs (3 * t) (omega arith)) in
         let c1 = cluster-at vs book room s (getD corners (3 * t + 1) 0) (corner-low b vs (3 * t + 1) (omega arith)) in
         let c2 = cluster-at vs book room s (getD corners (3 * t + 2) 0) (corner-low b vs (3 * t + 2) (omega arith)) in
-        λ i. (over corners (3 * t) || over corners (3 * t + 1) || over corners (3 * t + 2)) && (c0 i || c1 i || c2 i))
-        ∙ ap (λ (m : ℕ). any m (λ t. (over corners (3 * t) || over corners (3 * t + 1) || over corners (3 * t + 2))
+        λ i. (crowded corners (3 * t) || crowded corners (3 * t + 1) || crowded corners (3 * t + 2)) && (c0 i || c1 i || c2 i))
+        ∙ ap (λ (m : ℕ). any m (λ t. (crowded corners (3 * t) || crowded corners (3 * t + 1) || crowded corners (3 * t + 2))
         && (clusterIn (sets book 0 (bookOf vs)) s (getD corners (3 * t) 0) || clusterIn (sets book 0 (bookOf vs)) s (getD corners (3 * t + 1) 0)
         || clusterIn (sets book 0 (bookOf vs)) s (getD corners (3 * t + 2) 0)))) n
 
@@ -77,14 +77,14 @@ module _ (b : Box) (vs : List Vertex) where
     owners-unflagged m h e =
         owners-none b vs (any-none (sites (b .sides)) _ (λ s l. owners-flagged s ∙ any-off m (ownerIn corners (sets book 0 (bookOf vs))) e s (omega arith)))
 
-  -- no side that is over, no owner
-  pub calm-owners : any (length (flat (meshOf b vs))) (over (flat (meshOf b vs))) ≡ false → owners b vs ≡ []
+  -- no side that is crowded, no owner
+  pub calm-owners : any (length (flat (meshOf b vs))) (crowded (flat (meshOf b vs))) ≡ false → owners b vs ≡ []
   calm-owners calm =
       owners-none b vs (any-none (sites (b .sides)) _ (λ s l.
       owns-are (meshOf b vs) (mesh-proper b vs) vs s
       ∙ any-none (length (meshOf b vs)) _ (λ t h.
       let f = flat-length (meshOf b vs) in
-      let off = any-off (length corners) (over corners) calm in
+      let off = any-off (length corners) (crowded corners) calm in
       λ i. (off (3 * t) (omega arith) i || off (3 * t + 1) (omega arith) i || off (3 * t + 2) (omega arith) i)
       && (clusterOf vs s (getD corners (3 * t) 0) || clusterOf vs s (getD corners (3 * t + 1) 0) || clusterOf vs s (getD corners (3 * t + 2) 0)))))
 
@@ -116,12 +116,12 @@ some-owner [] s h = absurd (false≢true h)
 some-owner (o ∷ os) s h = (o, os, refl)
 
 module _ (b : Box) (vs : List Vertex) (book : List ℕ) (room : 4 * length vs ≤ length book) (low : All (λ x. x .site < sites (b .sides)) vs) where
-  owner-low : (s : ℕ) → owns vs (bads (meshOf b vs)) s ≡ true → s < sites (b .sides)
+  owner-low : (s : ℕ) → owns vs (crowdedTris (meshOf b vs)) s ≡ true → s < sites (b .sides)
   owner-low s h =
       let f = any-one (length (meshOf b vs)) _ (sym (owns-are (meshOf b vs) (mesh-proper b vs) vs s) ∙ h) in
       let l = flat (meshOf b vs) in
       let t = f .0 in
-      let c = and-apart (over l (3 * t) || over l (3 * t + 1) || over l (3 * t + 2)) _ (f .2) .1 in
+      let c = and-apart (crowded l (3 * t) || crowded l (3 * t + 1) || crowded l (3 * t + 2)) _ (f .2) .1 in
       ⊎-elim
       (λ e. ⊎-elim (λ d. cluster-low vs _ s _ low d) (λ d. cluster-low vs _ s _ low d) (or-apart (clusterOf vs s (getD l (3 * t) 0)) (clusterOf vs s (getD l (3 * t + 1) 0)) e))
       (λ d. cluster-low vs _ s _ low d)

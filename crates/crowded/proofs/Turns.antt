@@ -12,8 +12,8 @@ use Rattle.laws.specs.Bools.{bit}
 use Rattle.laws.specs.Ranges.{any, fold}
 use Rattle.laws.proofs.Bools.{bit-T, T-true}
 use Rattle.laws.proofs.Ranges.{fold-keeps, fold-none, fold-turn, any-more}
-use Rattle.pairs.specs.Sides.{next, over}
-use Rattle.crowded.specs.Inner.Turns.{Ready, mark, endTurn, flagged, badAt, wanted, ownerTurn}
+use Rattle.pairs.specs.Sides.{next, crowded}
+use Rattle.crowded.specs.Inner.Turns.{Ready, mark, endTurn, flagged, crowdedAt, wanted, ownerTurn}
 
 pub next-low : (s : List ℕ) → length s % 3 ≡ 0 → (k : ℕ) → k < length s → next k < length s
 unfolding next
@@ -32,17 +32,17 @@ unfolding bit
 bit-test true = refl
 bit-test false = refl
 
--- ---- the flag of a side says whether it is over
+-- ---- the flag of a side says whether it is crowded
 
 module _ {s room : List ℕ} {a : ℕ} (r : Ready s room a) (k : ℕ) (h : k < length s) where
-  pub flag-yes : getD room k 0 ≡ 1 → over s k ≡ true
-  flag-yes e = bit-one (over s k) (sym (r .flags k h) ∙ e)
+  pub flag-yes : getD room k 0 ≡ 1 → crowded s k ≡ true
+  flag-yes e = bit-one (crowded s k) (sym (r .flags k h) ∙ e)
 
-  pub flag-no : (getD room k 0 ≡ 1 → ⊥) → over s k ≡ false
-  flag-no n = bit-not (over s k) (λ e. n (r .flags k h ∙ e))
+  pub flag-no : (getD room k 0 ≡ 1 → ⊥) → crowded s k ≡ false
+  flag-no n = bit-not (crowded s k) (λ e. n (r .flags k h ∙ e))
 
-  pub flag-is : eqb (getD room k 0) 1 ≡ over s k
-  flag-is = ap (λ (x : ℕ). eqb x 1) (r .flags k h) ∙ bit-test (over s k)
+  pub flag-is : eqb (getD room k 0) 1 ≡ crowded s k
+  flag-is = ap (λ (x : ℕ). eqb x 1) (r .flags k h) ∙ bit-test (crowded s k)
 
 -- ---- the ways out of a turn
 
@@ -62,11 +62,11 @@ module _ (a : ℕ) (b : Bool) (x : ℕ) (l : List ℕ) where
   mark-no e = sym (rw e refl)
 
 module _ (s : List ℕ) (a k : ℕ) (l : List ℕ) where
-  pub side-yes : (n : ℕ) → n ≡ next k → over s k ≡ true → set (set l (a + getD s k 0) 1) (a + getD s n 0) 1 ≡ endTurn s a k l
+  pub side-yes : (n : ℕ) → n ≡ next k → crowded s k ≡ true → set (set l (a + getD s k 0) 1) (a + getD s n 0) 1 ≡ endTurn s a k l
   unfolding endTurn mark
   side-yes n e o = sym (rw (o, ← e) refl)
 
-  pub side-no : over s k ≡ false → l ≡ endTurn s a k l
+  pub side-no : crowded s k ≡ false → l ≡ endTurn s a k l
   unfolding endTurn mark
   side-no o = sym (rw o refl)
 
@@ -84,21 +84,21 @@ module _ (l : List ℕ) (k : ℕ) where
     unfolding flagged
     flagged-third e = sym (rw (ne-eqb (getD l k 0) 1 first, ← is-n, ne-eqb (getD l n 0) 1 e, ← is-m) refl)
 
--- the flags of a triangle say whether it has a side that is over
-pub flagged-bad : {s room : List ℕ} {a : ℕ} → Ready s room a → (k : ℕ) → k < length s → flagged room k ≡ badAt s k
-unfolding flagged badAt
-flagged-bad {s} {room} r k h =
+-- the flags of a triangle say whether it has a side that is crowded
+pub flagged-crowded : {s room : List ℕ} {a : ℕ} → Ready s room a → (k : ℕ) → k < length s → flagged room k ≡ crowdedAt s k
+unfolding flagged crowdedAt
+flagged-crowded {s} {room} r k h =
     let n : next k < length s = next-low s (r .whole) k h in
     let m : next (next k) < length s = next-low s (r .whole) (next k) n in
     λ i. flag-is r k h i || flag-is r (next k) n i || flag-is r (next (next k)) m i
 
 module _ (s book : List ℕ) (a k : ℕ) (l : List ℕ) (f : Bool) where
-  pub corner-yes : badAt s k ≡ true → {r : Bool} {l′ : List ℕ} → r ≡ f || ltb 1 (getD book (4 * getD s k 0 + 1) 0)
+  pub corner-yes : crowdedAt s k ≡ true → {r : Bool} {l′ : List ℕ} → r ≡ f || ltb 1 (getD book (4 * getD s k 0 + 1) 0)
       → l′ ≡ mark a (ltb 1 (getD book (4 * getD s k 0 + 1) 0)) (getD book (4 * getD s k 0) 0) l → (r ≡ f || wanted s book k) × (l′ ≡ ownerTurn s book a k l)
   unfolding wanted ownerTurn
   corner-yes e g h = (g ∙ sym (rw e refl), h ∙ sym (rw e refl))
 
-  pub corner-no : badAt s k ≡ false → (f ≡ f || wanted s book k) × (l ≡ ownerTurn s book a k l)
+  pub corner-no : crowdedAt s k ≡ false → (f ≡ f || wanted s book k) × (l ≡ ownerTurn s book a k l)
   unfolding wanted ownerTurn mark
   corner-no e = (sym (rw e (or-false f)), sym (rw e refl))
 
@@ -121,8 +121,8 @@ pub record Keeps (a : ℕ) (turn : ℕ → List ℕ → List ℕ) : Type 0 where
 pub end-keeps : (s : List ℕ) (a : ℕ) → Keeps a (endTurn s a)
 unfolding endTurn
 end-keeps s a = record {
-  long = λ k l. mark-length a (over s k) (getD s (next k) 0) _ ∙ mark-length a (over s k) (getD s k 0) l;
-  before = λ j h k l. mark-before a (over s k) (getD s (next k) 0) _ j h ∙ mark-before a (over s k) (getD s k 0) l j h;
+  long = λ k l. mark-length a (crowded s k) (getD s (next k) 0) _ ∙ mark-length a (crowded s k) (getD s k 0) l;
+  before = λ j h k l. mark-before a (crowded s k) (getD s (next k) 0) _ j h ∙ mark-before a (crowded s k) (getD s k 0) l j h;
 }
 
 pub owner-keeps : (s book : List ℕ) (a : ℕ) → Keeps a (ownerTurn s book a)

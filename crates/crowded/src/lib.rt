@@ -1,12 +1,12 @@
-// Flags behind the flags of the sides: which vertices are ends of a side that is over, and which sites own a live cluster vertex in a triangle with such a side.
+// Flags behind the flags of the sides: which vertices are ends of a side that is crowded, and which sites own a live cluster vertex in a triangle with such a side.
 ghost use mathlib.Core.Path.{_≡_};
 ghost use mathlib.Core.Bool.{false, _||_};
 ghost use Prim.Native.Nat.{_+_, _*_, _/_, _<_, min};
 ghost use lib.Dec.{ltb};
 ghost use lib.ListN.{length, getD};
 ghost use Rattle.laws.specs.Ranges.{any, fold};
-ghost use Rattle.pairs.specs.Sides.{over};
-ghost use Rattle.crowded.specs.Inner.Flags.{Flaggable, EndsFit, EndsUnder, OwnersFit, OwnersUnder, fitting, sideFlags, withFlags, endIn, ownerIn};
+ghost use Rattle.pairs.specs.Sides.{crowded};
+ghost use Rattle.crowded.specs.Inner.Flags.{Flaggable, EndsFit, EndsUnder, OwnersFit, OwnersUnder, fitting, sideFlags, withFlags, EndsFlagged, OwnersFlagged};
 ghost use Rattle.crowded.specs.Inner.Turns.{Ready, mark, endTurn, flagged, wanted, ownerTurn};
 
 // The lower of two numbers.
@@ -25,15 +25,15 @@ fn prepare(tris: &[u32], room: &mut [u32], a: usize, m: usize, v: usize)
     let u = w + least(v, room.len() - w);
     pairs::over_sides(tris, &mut room[..u]);
     let b = a + least(m, room.len() - a);
-    pairs::clear(&mut room[a..b]);
+    sort::clear(&mut room[a..b]);
 }
 
 // ---- ends
 
-// Side k: where it is over, both its ends get their flags.
+// Side k: where it is crowded, both its ends get their flags.
 fn flag_side(tris: &[u32], room: &mut [u32], a: usize, k: usize, found: bool) -> bool
     requires { ⌜ Ready (now tris) (now room) a × EndsFit (now tris) (now room) a × (k < length (now tris)) ⌝ }
-    ensures { λ r. ⌜ r ≡ found || over (now (tris .entry)) k ⌝ }
+    ensures { λ r. ⌜ r ≡ found || crowded (now (tris .entry)) k ⌝ }
     ensures { λ _. ⌜ now (room .exit) ≡ endTurn (now (tris .entry)) a k (now (room .entry)) ⌝ }
 {
     if room[k] == 1 {
@@ -47,10 +47,10 @@ fn flag_side(tris: &[u32], room: &mut [u32], a: usize, k: usize, found: bool) ->
     found
 }
 
-// All sides; whether any is over.
+// All sides; whether any is crowded.
 fn flag_sides(tris: &[u32], room: &mut [u32], a: usize) -> bool
     requires { ⌜ Ready (now tris) (now room) a × EndsFit (now tris) (now room) a ⌝ }
-    ensures { λ r. ⌜ r ≡ any (length (now (tris .entry))) (over (now (tris .entry))) ⌝ }
+    ensures { λ r. ⌜ r ≡ any (length (now (tris .entry))) (crowded (now (tris .entry))) ⌝ }
     ensures { λ _. ⌜ now (room .exit) ≡ fold (endTurn (now (tris .entry)) a) (length (now (tris .entry))) (now (room .entry)) ⌝ }
 {
     let mut found = false;
@@ -62,11 +62,10 @@ fn flag_sides(tris: &[u32], room: &mut [u32], a: usize) -> bool
     found
 }
 
-// Which of m vertices are ends of a side that is over; whether any side is.
+// Which of m vertices are ends of a side that is crowded; whether any side is.
 pub fn flag_ends(tris: &[u32], room: &mut [u32], a: usize, m: usize) -> bool
     requires { ⌜ Flaggable (now tris) (now room) a × EndsFit (now tris) (now room) a × EndsUnder (now tris) m ⌝ }
-    ensures { λ r. ⌜ r ≡ any (length (now (tris .entry))) (over (now (tris .entry))) ⌝ }
-    ensures { λ _. ⌜ now (room .exit) ≡ withFlags (sideFlags (now (tris .entry)) m (now (room .entry))) a (fitting m a (now (room .entry))) (endIn (now (tris .entry))) ⌝ }
+    ensures { λ r. ⌜ EndsFlagged (now (tris .entry)) a m (now (room .entry)) (now (room .exit)) r ⌝ }
 {
     prepare(tris, room, a, m, m);
     let b = a + least(m, room.len() - a);
@@ -76,7 +75,7 @@ pub fn flag_ends(tris: &[u32], room: &mut [u32], a: usize, m: usize) -> bool
 // ---- owners
 
 // Whether the triangle of corner k has a side with flag 1.
-fn in_bad(room: &[u32], k: usize) -> bool
+fn in_crowded(room: &[u32], k: usize) -> bool
     requires { ⌜ (k / 3 * 3 + 2 < length (now room)) × (k / 3 * 3 + 2 < 4294967296) ⌝ }
     ensures { λ r. ⌜ r ≡ flagged (now (room .entry)) k ⌝ }
 {
@@ -106,7 +105,7 @@ fn flag_owner(book: &[u32], room: &mut [u32], a: usize, v: usize, found: bool) -
     found
 }
 
-// Corner k: where its triangle has a side that is over, its vertex's site may get its flag.
+// Corner k: where its triangle has a side that is crowded, its vertex's site may get its flag.
 fn flag_corner(
     tris: &[u32],
     book: &[u32],
@@ -119,7 +118,7 @@ fn flag_corner(
     ensures { λ r. ⌜ r ≡ found || wanted (now (tris .entry)) (now (book .entry)) k ⌝ }
     ensures { λ _. ⌜ now (room .exit) ≡ ownerTurn (now (tris .entry)) (now (book .entry)) a k (now (room .entry)) ⌝ }
 {
-    if in_bad(room, k) {
+    if in_crowded(room, k) {
         let v = tris[k] as usize;
         return flag_owner(book, room, a, v, found);
     }
@@ -141,7 +140,7 @@ fn flag_corners(tris: &[u32], book: &[u32], room: &mut [u32], a: usize) -> bool
     found
 }
 
-// Which of m sites own a live cluster vertex in a triangle with a side that is over; whether any does. There are v vertices.
+// Which of m sites own a live cluster vertex in a triangle with a side that is crowded; whether any does. There are v vertices.
 pub fn flag_owners(
     tris: &[u32],
     book: &[u32],
@@ -151,8 +150,7 @@ pub fn flag_owners(
     v: usize,
 ) -> bool
     requires { ⌜ Flaggable (now tris) (now room) a × OwnersFit (now tris) (now book) (now room) a × OwnersUnder (now tris) (now book) m ⌝ }
-    ensures { λ r. ⌜ r ≡ any (fitting m a (now (room .entry))) (ownerIn (now (tris .entry)) (now (book .entry))) ⌝ }
-    ensures { λ _. ⌜ now (room .exit) ≡ withFlags (sideFlags (now (tris .entry)) v (now (room .entry))) a (fitting m a (now (room .entry))) (ownerIn (now (tris .entry)) (now (book .entry))) ⌝ }
+    ensures { λ r. ⌜ OwnersFlagged (now (tris .entry)) (now (book .entry)) a m v (now (room .entry)) (now (room .exit)) r ⌝ }
 {
     prepare(tris, room, a, m, v);
     let b = a + least(m, room.len() - a);

@@ -1,16 +1,14 @@
-// Reads a count file from standard input and prints the answer and then all that the build leaves behind, in the format of tools/oracle/FORMAT.md,
+// Reads a count file from standard input, or from the file that its one argument names, and prints the answer and then all that the build leaves behind, in the format of tools/oracle/FORMAT.md,
 // but for the lines of splits and owners.
 use build::Answer;
+use count_file::Head;
 use lattice::Sides;
-use libc::STDIN_FILENO;
 use libc::STDOUT_FILENO;
 ghost use Prim.Native.Nat.{_<_, _≤_};
 ghost use lib.ListN.{length};
 ghost use Rattle.lattice.specs.Sites.{sites};
 ghost use Rattle.marks.specs.Inner.Loops.{Sampled};
-ghost use Rattle.count.specs.Count.{headSides};
-
-const NONE: u32 = 0xFFFF_FFFF;
+ghost use Rattle.file_build.specs.Asked.{headSides};
 
 // ---- words of a line
 
@@ -18,18 +16,9 @@ fn wide(x: u32) -> u64 {
     x as u64
 }
 
-fn wide_mask(x: u16) -> u64 {
-    x as u64
-}
-
 fn word(n: u64) {
     io::write_all(STDOUT_FILENO, b" ");
     io::print_decimal(STDOUT_FILENO, n);
-}
-
-fn mask_word(m: u16) {
-    io::write_all(STDOUT_FILENO, b" ");
-    io::print_hex(STDOUT_FILENO, wide_mask(m), 4);
 }
 
 fn float_word(x: f64) {
@@ -47,7 +36,7 @@ fn show_mask(s: usize, m: u16) {
     if m != 0 {
         io::write_all(STDOUT_FILENO, b"mask");
         word(s as u64);
-        mask_word(m);
+        streams::mask_word(m);
         end();
     }
 }
@@ -58,14 +47,6 @@ fn show_masks(masks: &[u16]) {
     }
 }
 
-fn show_clusters(count: usize, masks: [u16; 14]) {
-    for i in 0..14 {
-        if i < count {
-            mask_word(masks[i]);
-        }
-    }
-}
-
 fn show_topology(n: Sides, samples: &[f64], s: usize, m: u16, cluster: bool)
     requires { ⌜ Sampled n (now samples) × (s < sites n) ⌝ }
 {
@@ -73,7 +54,7 @@ fn show_topology(n: Sides, samples: &[f64], s: usize, m: u16, cluster: bool)
         return;
     }
     let ends = site_vertices::ends_of(n, samples, s);
-    let r = topology::test_topology(m, cluster, ends, build::THRESHOLD);
+    let r = topology::test_topology(m, cluster, ends, samples::INSIDE);
     let case = r.case;
     let clusters = r.clusters;
     let count = clusters.count;
@@ -82,7 +63,7 @@ fn show_topology(n: Sides, samples: &[f64], s: usize, m: u16, cluster: bool)
     word(s as u64);
     word(topology::case_number(case) as u64);
     word(count as u64);
-    show_clusters(count, masks);
+    streams::mask_words(count, masks);
     end();
 }
 
@@ -100,7 +81,7 @@ fn show_cases(n: Sides, samples: &[f64], s: usize)
     requires { ⌜ Sampled n (now samples) × (s < sites n) ⌝ }
 {
     let p = lattice::coordinates(n, s);
-    let c = march::site_cases(samples, n, p, build::THRESHOLD);
+    let c = cases::site_cases(samples, n, p, samples::INSIDE);
     if c[0] | c[1] | c[2] | c[3] | c[4] | c[5] == 0 {
         return;
     }
@@ -127,7 +108,7 @@ fn show_tets(n: Sides, samples: &[f64])
 // ---- edge table, positions, vertex book, triangles
 
 fn show_edge(i: usize, v: u32) {
-    if v != NONE {
+    if v != march::NONE {
         io::write_all(STDOUT_FILENO, b"edge");
         word((i / 7) as u64);
         word((i % 7) as u64);
@@ -159,36 +140,27 @@ fn show_positions(positions: &[f64]) {
     }
 }
 
-fn show_entry(i: usize, x: u32) {
-    if i % 4 == 0 {
-        io::write_all(STDOUT_FILENO, b"book");
-        word((i / 4) as u64);
+// Word i of rows of n words: before the first of a row its label, and its number where rows are numbered; LF after the last.
+fn show_word(label: &[u8], n: usize, numbered: bool, i: usize, x: u32)
+    requires { ⌜ 0 < n ⌝ }
+{
+    if i % n == 0 {
+        io::write_all(STDOUT_FILENO, label);
+        if numbered {
+            word((i / n) as u64);
+        }
     }
     word(wide(x));
-    if i % 4 == 3 {
+    if i % n == n - 1 {
         end();
     }
 }
 
-fn show_book(book: &[u32]) {
-    for i in 0..book.len() {
-        show_entry(i, book[i]);
-    }
-}
-
-fn show_corner(i: usize, v: u32) {
-    if i % 3 == 0 {
-        io::write_all(STDOUT_FILENO, b"triangle");
-    }
-    word(wide(v));
-    if i % 3 == 2 {
-        end();
-    }
-}
-
-fn show_triangles(tris: &[u32]) {
-    for i in 0..tris.len() {
-        show_corner(i, tris[i]);
+fn show_rows(label: &[u8], n: usize, numbered: bool, words: &[u32])
+    requires { ⌜ 0 < n ⌝ }
+{
+    for i in 0..words.len() {
+        show_word(label, n, numbered, i, words[i]);
     }
 }
 
@@ -207,8 +179,8 @@ fn show_lists(a: Answer, table: &[u32], positions: &[f64], book: &[u32], tris: &
     let t = least(3 * least(a.triangles, 2592), tris.len());
     show_edges(table);
     show_positions(&positions[..p]);
-    show_book(&book[..b]);
-    show_triangles(&tris[..t]);
+    show_rows(b"book", 4, true, &book[..b]);
+    show_rows(b"triangle", 3, false, &tris[..t]);
 }
 
 fn show_sites(n: Sides, samples: &[f64], masks: &[u16], cluster: bool)
@@ -222,7 +194,7 @@ fn show_sites(n: Sides, samples: &[f64], masks: &[u16], cluster: bool)
 
 // All that a build has left, of a file of k sites.
 fn dump(
-    head: [u64; 11],
+    head: Head,
     samples: &[f64],
     a: Answer,
     masks: &[u16],
@@ -233,23 +205,22 @@ fn dump(
 )
     requires { ⌜ Sampled (headSides head) (now samples) × (length (now samples) ≤ sites (headSides head)) ⌝ }
 {
-    let n = count::sides_of(head);
-    let e = least(7 * least(samples.len(), 216), table.len());
-    show_sites(n, samples, masks, head[3] == 1);
+    let n = file_build::sides_of(head);
+    let e = least(7 * least(samples.len(), count_file::SITES), table.len());
+    let sizes = head.sizes;
+    show_sites(n, samples, masks, sizes[3] == 1);
     show_lists(a, &table[..e], positions, book, tris);
 }
 
-fn main() {
-    let mut input = [0u8; 8192];
-    let n = io::read_full(STDIN_FILENO, &mut input);
-    let mut masks = [0u16; 216];
+fn show_file(input: &[u8]) {
+    let mut masks = [0u16; count_file::SITES];
     let mut table = [0u32; 1512];
     let mut positions = [0.0; 6804];
     let mut book = [0u32; 9072];
     let mut tris = [0u32; 7776];
     let mut edges = [0u32; 23328];
-    let built = count::build_file(
-        &input[..n],
+    let built = file_build::build_file(
+        input,
         &mut masks,
         &mut table,
         &mut positions,
@@ -259,14 +230,14 @@ fn main() {
     );
     let file = built.file;
     let answer = built.answer;
-    let mut out = [0u8; 402];
-    let k = least(count::print(&mut out, file.sites, answer), 402);
+    let mut out = [0u8; count::ROOM];
+    let k = least(count::print(&mut out, file.sites, answer), count::ROOM);
     io::write_all(STDOUT_FILENO, &out[..k]);
     if answer.status == 0 {
         let head = file.head;
         let bits = file.samples;
         let m = file.sites;
-        let samples = count::floats_of(bits);
+        let samples = file_build::floats_of(bits);
         dump(
             head,
             &samples[..m],
@@ -277,5 +248,15 @@ fn main() {
             &book,
             &tris,
         );
+    }
+}
+
+fn main() {
+    let mut space = [0u8; count_file::ENOUGH];
+    let taken = streams::read(b"usage: dump_main [FILE]\n", 1, &mut space);
+    if taken.ok {
+        let n = taken.length;
+        show_file(&space[..n]);
+        streams::finish(taken.fd);
     }
 }

@@ -188,11 +188,11 @@ pub fn across(n: Sides, s: usize, label: usize) -> OtherEnd
     ensures { λ r. ⌜ r ≡ acrossOf n s label ⌝ }
 {
     let p = coordinates(n, s);
-    if label < 7 {
+    if label < tables::OWNED_EDGES {
         let c = tables::label_corner(label);
         return up(n, p, c);
     }
-    let c = tables::label_corner(label - 7);
+    let c = tables::label_corner(label - tables::OWNED_EDGES);
     down(n, p, c)
 }
 
@@ -458,11 +458,11 @@ pub fn get_edge_owner(u: Ijk, v: Ijk) -> EdgeOwner
     let y = axis_gap(u.j, v.j);
     let z = axis_gap(u.k, v.k);
     let e = gap_label(x, y, z);
-    if e < 7 {
+    if e < tables::OWNED_EDGES {
         return EdgeOwner::Owned(u, v, e);
     }
-    if e < 14 {
-        return EdgeOwner::Owned(v, u, e - 7);
+    if e < tables::EDGES {
+        return EdgeOwner::Owned(v, u, e - tables::OWNED_EDGES);
     }
     EdgeOwner::NoEdge
 }

@@ -11,7 +11,7 @@ use borrow.Author.Tests.{lt-ltb, le-ltb}
 use Rattle.laws.proofs.Lists.{append-apart}
 use Rattle.laws.proofs.Ranges.{lt-or}
 use Rattle.lines.specs.Numbers.{hexDigit, hex}
-use Rattle.lines.specs.Readers.{hexVal}
+use Rattle.lines.specs.Inner.Readers.{hexVal}
 
 -- ---- one digit
 

@@ -12,7 +12,7 @@ use lib.Seq.{drop-cons, drop-drop, drop-append-seam}
 use borrow.Author.Tests.{eqb-true, eq-eqb, ne-eqb}
 use Rattle.lines.specs.declared.Num.{Num}
 use Rattle.lines.specs.declared.Num.the-variants.{Bad, Got}
-use Rattle.lines.specs.Readers.{Absent, Line, starts}
+use Rattle.lines.specs.Inner.Readers.{Absent, Line, starts}
 
 -- ---- byte by byte
 

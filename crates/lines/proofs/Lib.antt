@@ -5,8 +5,9 @@ pub mod Hex
 pub mod ReadHex
 pub mod Keys
 pub mod Lines
+pub mod Parts
 pub mod Runs
-pub mod Files
+pub mod Rows
 pub mod Printing
+pub mod PutRuns
 pub mod Determined
-pub mod Example

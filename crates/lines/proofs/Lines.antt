@@ -18,7 +18,7 @@ use Rattle.lines.specs.declared.Num.{Num}
 use Rattle.lines.specs.declared.Num.the-variants.{Bad, Got}
 use Rattle.lines.specs.Numbers.{dec, hex}
 use Rattle.lines.specs.Lines.{decLine, Field, Dec, Hex, lineOf, okOf, lines, Fine, none, line}
-use Rattle.lines.specs.Readers.{Reads, Absent, Line}
+use Rattle.lines.specs.Inner.Readers.{Reads, Absent, Line}
 use Rattle.lines.proofs.Decimals.{dec-same, run-dec, span, lf-no-digit, dec-short, dec-room}
 use Rattle.lines.proofs.Hex.{hex-length, hex-same}
 
@@ -143,6 +143,13 @@ pub lines-most : {fs : List Field} {vs : List ℕ} → Fine fs vs → length (li
 unfolding lines total
 lines-most none = omega arith
 lines-most (line {f} {fs} {v} {vs} a p) = rw length-append (omega (arith, line-most f v a, lines-most p))
+
+-- and where the numbers are any of 64 bits
+pub lines-room : (fs : List Field) (vs : List ℕ) → length fs ≡ length vs → length (lines fs vs) ≤ total (λ f. length (keyOf f) + 21) fs
+unfolding lines total
+lines-room [] vs e = omega arith
+lines-room (f ∷ fs) [] e = absurd (omega arith)
+lines-room (f ∷ fs) (v ∷ vs) e = rw length-append (omega (arith, line-room f v, lines-room fs vs (omega arith)))
 
 -- a run is its lines, numbered
 pub lines-each : (d : Field) (fs : List Field) (vs : List ℕ) → length fs ≡ length vs → lines fs vs ≡ each (length fs) (λ k. lineOf (getD fs k d) (getD vs k 0))

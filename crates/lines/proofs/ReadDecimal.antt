@@ -8,7 +8,7 @@ use lib.ListN.{length, getD, drop, length-append, length-drop, List·getD-append
 use lib.Seq.{drop-cons}
 use Rattle.lines.specs.Numbers.{dec}
 use Rattle.lines.specs.Lines.{decEnd, Small}
-use Rattle.lines.specs.Readers.{Reads, Absent}
+use Rattle.lines.specs.Inner.Readers.{Reads, Absent}
 use Rattle.lines.proofs.Decimals.{dec-small, dec-more, Digit, Run, more, run-append, run-dec, lf-no-digit, span, stops, dec-short, dec-long, dec-zero, dec-some}
 
 pub record Sofar (s : List ℕ) (from n i : ℕ) : Type 0 where

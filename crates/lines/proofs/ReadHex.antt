@@ -11,7 +11,7 @@ use lib.Seq.{getD-drop, getD-at}
 use Rattle.laws.proofs.Ranges.{lt-or}
 use Rattle.lines.specs.Numbers.{hex, hexDigit}
 use Rattle.lines.specs.Lines.{hexEnd, Word}
-use Rattle.lines.specs.Readers.{Reads, Absent, hexVal}
+use Rattle.lines.specs.Inner.Readers.{Reads, Absent, hexVal}
 use Rattle.lines.proofs.Hex.{digit-val, val-le, hex-length, hex-more, hex-at, fits, small-word}
 use Rattle.lines.proofs.ReadDecimal.{next-byte}
 

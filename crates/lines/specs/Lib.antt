@@ -1,9 +1,6 @@
--- What the promises of this crate cite: numbers as text, lines, the count file, what is read from it, and the answer that is printed.
+-- What the promises of this crate cite: numbers as text, lines, headers of parts, the line of a status; and, for inner functions, what readers answer.
 pub mod Numbers
 pub mod Lines
-pub mod Readers
-pub mod CountFile
-pub mod Parsed
 pub mod Parts
-pub mod Answer
-pub mod Example
+pub mod Status
+pub mod Inner

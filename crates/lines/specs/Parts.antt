@@ -1,45 +1,39 @@
--- The parts of a count file, as the private functions answer them on the way: no public promise cites this. Assumes nothing.
-use mathlib.Core.Path.{_≡_}
-use mathlib.Core.Bool.{Bool, true, false, cond}
-use mathlib.Core.List.{List}
-use Prim.Native.Nat.{ℕ, _*_}
-use lib.Dec.{leb}
-use lib.ListN.{length, drop, take, getD, replicate}
-use Rattle.lines.specs.declared.Head.{Head}
-use Rattle.lines.specs.declared.Place.{Place}
-use Rattle.lines.specs.declared.Place.the-variants.{Bad, At}
-use Rattle.lines.specs.Lines.{lines, Fine}
-use Rattle.lines.specs.Readers.{Reads, Absent}
-use Rattle.lines.specs.CountFile.{headForm, bodyForm}
+-- A header as a list of parts, each a run of lines: one that must be there, one that may be left out, one of two. Assumes nothing.
+use mathlib.Core.List.{List, [], _∷_, _++_}
+use Prim.Native.Nat.{ℕ}
+use Rattle.lines.specs.Lines.{Field, lines, Fine}
 
--- the header
-abbrev pub noHead : Head
-noHead = record { good = false; next = 0; vals = replicate 11 0 }
+pub data Part : Type 0 where
+  Must May : List Field → Part
+  One : List Field → List Field → Part
 
-pub record NoHead (s : List ℕ) (h : Head) : Type 0 where
-  pub absent : Absent (lines headForm) (Fine headForm) s 0
-  pub is : h ≡ noHead
+-- what stands for a part: nothing, the numbers of its run, those of the other run
+pub data Run : Type 0 where
+  Left : Run
+  This That : List ℕ → Run
 
-abbrev pub headAs : Bool → List ℕ → Head → Type 0
-headAs true s h = Reads (lines headForm) (Fine headForm) s 0 (h .vals) (h .next)
-headAs false s h = NoHead s h
+unfoldable pub partText : Part → Run → List ℕ
+partText (Must fs) Left = []
+partText (Must fs) (This vs) = lines fs vs
+partText (Must fs) (That vs) = []
+partText (May fs) Left = []
+partText (May fs) (This vs) = lines fs vs
+partText (May fs) (That vs) = []
+partText (One fs gs) Left = []
+partText (One fs gs) (This vs) = lines fs vs
+partText (One fs gs) (That vs) = lines gs vs
 
-abbrev pub HeadOf : List ℕ → Head → Type 0
-HeadOf s h = headAs (h .good) s h
+-- one part after the other
+unfoldable pub partsText : List Part → List Run → List ℕ
+partsText [] vs = []
+partsText (p ∷ ps) [] = []
+partsText (p ∷ ps) (v ∷ vs) = partText p v ++ partsText ps vs
 
--- nu * nv * nw, or 0 where that is over 216
-unfoldable pub siteCount : ℕ → ℕ → ℕ → ℕ
-siteCount nu nv nw = cond (leb (nu * nv * nw) 216) (nu * nv * nw) 0
-
-abbrev pub countOf : List ℕ → ℕ
-countOf vs = siteCount (getD vs 0 0) (getD vs 1 0) (getD vs 2 0)
-
--- n samples from a place on, stored in front of what l had
-pub record Stored (s : List ℕ) (from n : ℕ) (l l′ : List ℕ) (next : ℕ) : Type 0 where
-  pub reads : Reads (lines (bodyForm n)) (Fine (bodyForm n)) s from (take n l′) next
-  pub past : drop n l′ ≡ drop n l
-  pub full : length l′ ≡ length l
-
-abbrev pub SamplesOf : List ℕ → ℕ → ℕ → List ℕ → List ℕ → Place → Type 0
-SamplesOf s from n l l′ Bad = Absent (lines (bodyForm n)) (Fine (bodyForm n)) s from
-SamplesOf s from n l l′ (At next) = Stored s from n l l′ next
+-- what may stand for them
+pub data PartsFine : List Part → List Run → Type 0 where
+  done : PartsFine [] []
+  must : {fs : List Field} {ps : List Part} {vs : List ℕ} {rs : List Run} → Fine fs vs → PartsFine ps rs → PartsFine (Must fs ∷ ps) (This vs ∷ rs)
+  given : {fs : List Field} {ps : List Part} {vs : List ℕ} {rs : List Run} → Fine fs vs → PartsFine ps rs → PartsFine (May fs ∷ ps) (This vs ∷ rs)
+  left : {fs : List Field} {ps : List Part} {rs : List Run} → PartsFine ps rs → PartsFine (May fs ∷ ps) (Left ∷ rs)
+  this : {fs gs : List Field} {ps : List Part} {vs : List ℕ} {rs : List Run} → Fine fs vs → PartsFine ps rs → PartsFine (One fs gs ∷ ps) (This vs ∷ rs)
+  that : {fs gs : List Field} {ps : List Part} {vs : List ℕ} {rs : List Run} → Fine gs vs → PartsFine ps rs → PartsFine (One fs gs ∷ ps) (That vs ∷ rs)

@@ -1,16 +1,15 @@
-// The text of the count program: the count file read from bytes, and the answer printed as bytes.
+// Numbers and lines as text, read and printed: one line with its key, and runs of lines whose keys stand one after the other in one byte string.
 ghost use mathlib.Core.Path.{_≡_};
-ghost use Prim.Native.Nat.{_+_, _≤_, _<_};
+ghost use Prim.Native.Nat.{_+_, _*_, _≤_, _<_};
 ghost use lib.Dec.{eqb};
 ghost use lib.ListN.{length, drop, getD};
 ghost use Rattle.laws.specs.Written.{Written};
 ghost use Rattle.lines.specs.Numbers.{dec};
 ghost use Rattle.lines.specs.Lines.{decEnd, hexEnd, decLine, hexLine, Small, Word, lineOf, okOf, lines};
-ghost use Rattle.lines.specs.Readers.{Line, starts, hexVal};
-ghost use Rattle.lines.specs.CountFile.{headField};
-ghost use Rattle.lines.specs.Parsed.{refusal, ParsedOf};
-ghost use Rattle.lines.specs.Parts.{siteCount, noHead, HeadOf, SamplesOf};
-ghost use Rattle.lines.specs.Answer.{status, countForm, countField, answerText, refusalText};
+ghost use Rattle.lines.specs.Inner.Readers.{Line, starts, hexVal};
+ghost use Rattle.lines.specs.Inner.Forms.{firstKey, fieldOf, formOf};
+ghost use Rattle.lines.specs.Inner.Stored.{RunOf};
+ghost use Rattle.lines.specs.Status.{refusalText};
 
 // ---- one line
 
@@ -173,183 +172,62 @@ pub fn hex_line(s: &[u8], at: usize, key: &[u8]) -> Num
     Num::Bad
 }
 
-// ---- the count file
+// ---- a run of lines
 
-// Line k of the header.
-fn head_line(s: &[u8], at: usize, k: usize) -> Num
-    requires { ⌜ (at ≤ length (now s)) × (k < 11) ⌝ }
-    ensures { λ r. ⌜ Line (lineOf (headField k)) (okOf (headField k)) (now (s .entry)) at r ⌝ }
+// Where the key ends that starts at p: past its `=`.
+fn key_end(keys: &[u8], p: usize) -> usize
+    requires { ⌜ p ≤ length (now keys) ⌝ }
+    ensures { λ r. ⌜ r ≡ p + length (firstKey (drop p (now (keys .entry)))) ⌝ }
 {
-    if k == 0 {
-        return dec_line(s, at, b"nu=");
+    let mut i = p;
+    while i < keys.len() {
+        if keys[i] == 61 {
+            return i + 1;
+        }
+        i += 1;
     }
-    if k == 1 {
-        return dec_line(s, at, b"nv=");
-    }
-    if k == 2 {
-        return dec_line(s, at, b"nw=");
-    }
-    if k == 3 {
-        return dec_line(s, at, b"method=");
-    }
-    if k == 4 {
-        return dec_line(s, at, b"rounds=");
-    }
-    if k == 5 {
-        return hex_line(s, at, b"origin0=");
-    }
-    if k == 6 {
-        return hex_line(s, at, b"origin1=");
-    }
-    if k == 7 {
-        return hex_line(s, at, b"origin2=");
-    }
-    if k == 8 {
-        return hex_line(s, at, b"step0=");
-    }
-    if k == 9 {
-        return hex_line(s, at, b"step1=");
-    }
-    hex_line(s, at, b"step2=")
+    i
 }
 
-// The eleven numbers of the header, and where the samples start.
-struct Head {
-    good: bool,
-    next: usize,
-    vals: [u64; 11],
-}
-
-fn no_head() -> Head
-    ensures { λ r. ⌜ r ≡ noHead ⌝ }
+// A line of either kind.
+fn line(s: &[u8], at: usize, hex: bool, key: &[u8]) -> Num
+    requires { ⌜ at ≤ length (now s) ⌝ }
+    ensures { λ r. ⌜ Line (lineOf (fieldOf hex (now (key .entry)))) (okOf (fieldOf hex (now (key .entry)))) (now (s .entry)) at r ⌝ }
 {
-    Head {
-        good: false,
-        next: 0,
-        vals: [0u64; 11],
+    if hex {
+        return hex_line(s, at, key);
     }
+    dec_line(s, at, key)
 }
 
-fn read_head(s: &[u8]) -> Head
-    ensures { λ r. ⌜ HeadOf (now (s .entry)) r ⌝ }
-{
-    let mut vals = [0u64; 11];
-    let mut at = 0usize;
-    let mut k = 0usize;
-    while k < 11 {
-        let Num::Got { value, next } = head_line(s, at, k) else {
-            return no_head();
-        };
-        vals[k] = value;
-        at = next;
-        k += 1;
-    }
-    Head {
-        good: true,
-        next: at,
-        vals,
-    }
-}
-
-// Where the samples end.
-enum Place {
+// Where a run ends.
+pub enum Place {
     Bad,
     At(usize),
 }
 
-// The lines of n samples, whose bits are stored in the first n places.
-fn read_samples(s: &[u8], from: usize, n: usize, out: &mut [u64]) -> Place
+// The first n lines of the keys, the first decs of them in decimal, the others by their bits: the numbers are stored in the first n places.
+pub fn read_run(s: &[u8], from: usize, decs: usize, keys: &[u8], n: usize, out: &mut [u64]) -> Place
     requires { ⌜ (from ≤ length (now s)) × (n ≤ length (now out)) ⌝ }
-    ensures { λ r. ⌜ SamplesOf (now (s .entry)) from n (now (out .entry)) (now (out .exit)) r ⌝ }
+    ensures { λ r. ⌜ RunOf (formOf decs n (now (keys .entry))) (now (s .entry)) from n (now (out .entry)) (now (out .exit)) r ⌝ }
 {
     let mut at = from;
+    let mut p = 0usize;
     let mut k = 0usize;
     while k < n {
-        let Num::Got { value, next } = hex_line(s, at, b"s=") else {
+        let q = key_end(keys, p);
+        let Num::Got { value, next } = line(s, at, decs <= k, &keys[p..q]) else {
             return Place::Bad;
         };
         out[k] = value;
         at = next;
+        p = q;
         k += 1;
     }
     Place::At(at)
 }
 
-// The number of sites, 0 where it is over 216.
-fn sites_of(nu: u64, nv: u64, nw: u64) -> usize
-    requires { ⌜ (nu < 1000000000) × (nv < 1000000000) ⌝ }
-    ensures { λ r. ⌜ r ≡ siteCount nu nv nw ⌝ }
-{
-    let a = nu * nv;
-    if a == 0 {
-        return 0;
-    }
-    if nw == 0 {
-        return 0;
-    }
-    if 216 < a {
-        return 0;
-    }
-    if 216 < nw {
-        return 0;
-    }
-    let n = a * nw;
-    if 216 < n {
-        return 0;
-    }
-    n as usize
-}
-
-// What a count file says. `head` has nu, nv, nw, method, rounds, the bits of the three origins and of the three steps, in this order;
-// `samples` the bits of each site's sample, zeros past the sites. All is zero where `good` is false: the input is no count file.
-pub struct Parsed {
-    pub good: bool,
-    pub head: [u64; 11],
-    pub sites: usize,
-    pub samples: [u64; 216],
-}
-
-fn refused() -> Parsed
-    ensures { λ r. ⌜ r ≡ refusal ⌝ }
-{
-    Parsed {
-        good: false,
-        head: [0u64; 11],
-        sites: 0,
-        samples: [0u64; 216],
-    }
-}
-
-// The whole file.
-pub fn read_file(s: &[u8]) -> Parsed
-    ensures { λ r. ⌜ ParsedOf (now (s .entry)) r ⌝ }
-{
-    let h = read_head(s);
-    if h.good {
-        let head = h.vals;
-        let sites = sites_of(head[0], head[1], head[2]);
-        if sites == 0 {
-            return refused();
-        }
-        let mut samples = [0u64; 216];
-        let r = read_samples(s, h.next, sites, &mut samples);
-        let Place::At(at) = r else {
-            return refused();
-        };
-        if at == s.len() {
-            return Parsed {
-                good: true,
-                head,
-                sites,
-                samples,
-            };
-        }
-        return refused();
-    }
-    refused()
-}
-
-// ---- the answer
+// ---- printing
 
 // n in decimal, appended.
 pub fn put_dec(out: &mut [u8], at: usize, n: u64) -> usize
@@ -388,80 +266,29 @@ pub fn put_line(out: &mut [u8], at: usize, key: &[u8], n: u64) -> usize
     put_text(out, b, b"\n")
 }
 
-// The line of the status, appended.
-fn put_status(out: &mut [u8], at: usize, n: u64) -> usize
-    requires { ⌜ at + 28 ≤ length (now out) ⌝ }
-    ensures { λ r. ⌜ Written (now (out .entry)) at (lineOf status n) (now (out .exit)) r ⌝ }
-{
-    put_line(out, at, b"status=", n)
-}
-
-// The whole answer of a refusal with number n, appended: `status=` and the number alone. It never takes more than 28 bytes.
-pub fn print_refusal(out: &mut [u8], at: usize, n: u64) -> usize
-    requires { ⌜ at + 28 ≤ length (now out) ⌝ }
-    ensures { λ r. ⌜ Written (now (out .entry)) at (refusalText n) (now (out .exit)) r ⌝ }
-{
-    put_status(out, at, n)
-}
-
-// The line of count k, appended.
-fn put_count(out: &mut [u8], at: usize, k: usize, n: u64) -> usize
-    requires { ⌜ (k < 11) × (at + 34 ≤ length (now out)) ⌝ }
-    ensures { λ r. ⌜ Written (now (out .entry)) at (lineOf (countField k) n) (now (out .exit)) r ⌝ }
-{
-    if k == 0 {
-        return put_line(out, at, b"sites=", n);
-    }
-    if k == 1 {
-        return put_line(out, at, b"crossed=", n);
-    }
-    if k == 2 {
-        return put_line(out, at, b"vertices=", n);
-    }
-    if k == 3 {
-        return put_line(out, at, b"triangles=", n);
-    }
-    if k == 4 {
-        return put_line(out, at, b"closed=", n);
-    }
-    if k == 5 {
-        return put_line(out, at, b"multihole=", n);
-    }
-    if k == 6 {
-        return put_line(out, at, b"flathole=", n);
-    }
-    if k == 7 {
-        return put_line(out, at, b"multisurface=", n);
-    }
-    if k == 8 {
-        return put_line(out, at, b"simple=", n);
-    }
-    if k == 9 {
-        return put_line(out, at, b"split=", n);
-    }
-    put_line(out, at, b"rounds=", n)
-}
-
-// The lines of the eleven counts, appended.
-fn put_counts(out: &mut [u8], at: usize, counts: [u64; 11]) -> usize
-    requires { ⌜ at + 374 ≤ length (now out) ⌝ }
-    ensures { λ r. ⌜ Written (now (out .entry)) at (lines countForm counts) (now (out .exit)) r ⌝ }
+// The lines of the numbers, in decimal, appended.
+pub fn put_run(out: &mut [u8], at: usize, keys: &[u8], vals: &[u64]) -> usize
+    requires { ⌜ at + length (now keys) + 21 * length (now vals) ≤ length (now out) ⌝ }
+    ensures { λ r. ⌜ Written (now (out .entry)) at (lines (formOf (length (now (vals .entry))) (length (now (vals .entry))) (now (keys .entry))) (now (vals .entry))) (now (out .exit)) r ⌝ }
 {
     let mut next = at;
+    let mut p = 0usize;
     let mut k = 0usize;
-    while k < 11 {
-        next = put_count(out, next, k, counts[k]);
+    while k < vals.len() {
+        let q = key_end(keys, p);
+        next = put_line(out, next, &keys[p..q], vals[k]);
+        p = q;
         k += 1;
     }
     next
 }
 
-// The whole answer of a build that is done, appended: `status=0`, then sites, crossed edges, vertices, triangles, the five cases
-// (closed, multihole, flathole, multisurface, simple), clusters split and rounds done. It never takes more than 402 bytes.
-pub fn print_answer(out: &mut [u8], at: usize, counts: [u64; 11]) -> usize
-    requires { ⌜ at + 402 ≤ length (now out) ⌝ }
-    ensures { λ r. ⌜ Written (now (out .entry)) at (answerText counts) (now (out .exit)) r ⌝ }
+// ---- the line `status=`
+
+// The line of the status, appended: the first line of an answer, and all of a refusal. It never takes more than 28 bytes.
+pub fn put_status(out: &mut [u8], at: usize, n: u64) -> usize
+    requires { ⌜ at + 28 ≤ length (now out) ⌝ }
+    ensures { λ r. ⌜ Written (now (out .entry)) at (refusalText n) (now (out .exit)) r ⌝ }
 {
-    let next = put_status(out, at, 0);
-    put_counts(out, next, counts)
+    put_line(out, at, b"status=", n)
 }

@@ -25,9 +25,9 @@ use Rattle.lattice.specs.Sites.{siteOf, step}
 use Rattle.lattice.proofs.Sites.{step-add}
 use Rattle.march.specs.Cells.{caseNo, onEach, tetTris, cellTris}
 use Rattle.march.specs.March.{Field, none, okAt, sideAt, vertexAt, cornersOf, vertexIn, resolved, proper, emitted, siteTris}
-use Rattle.march.specs.Samples.{caseOn}
+use Rattle.cases.specs.Inner.Codes.{caseOn}
 use Rattle.march.specs.Lists.{fieldOf}
-use Rattle.march.specs.Loop.{shown, lookUp, cornerAt, triAt, tetFlat, cellFlat, InTable}
+use Rattle.march.specs.Inner.Loop.{shown, twice, unlessTwice, lookUp, cornerAt, triAt, triFlat, tetFlat, cellFlat, InTable}
 
 -- ---- those that are emitted
 
@@ -42,9 +42,6 @@ flat-keep f (r ∷ l) = go (emitted (f r)) (flat-keep f l)
     go false e = e
 
 -- ---- one triangle, as the code asks
-
-abbrev pub twice : ℕ → ℕ → ℕ → Bool
-twice a b c = eqb a b || eqb b c || eqb a c
 
 shown-is : (a b c : ℕ) → shown (a, b, c) ≡ cond (eqb a none || eqb b none || eqb c none) [] (cond (twice a b c) [] (a ∷ b ∷ c ∷ []))
 unfolding shown emitted resolved proper
@@ -74,8 +71,8 @@ has-more g v c x l all e here =
     (getD-set-same v c x 0 l ∙ e, (λ q. here (e ∙ q)))
 
 -- a corner is not there: nothing is shown
-pub tri-dropped : (look : ℕ → ℕ) (t case k c : ℕ) → c < 3 → cornerAt look t case k c ≡ none → shown (triAt look t case k) ≡ []
-unfolding triAt
+pub tri-dropped : (look : ℕ → ℕ) (t case k c : ℕ) → c < 3 → cornerAt look t case k c ≡ none → triFlat look t case k ≡ []
+unfolding triFlat triAt
 tri-dropped look t case k c h e = shown-is (cornerAt look t case k 0) (cornerAt look t case k 1) (cornerAt look t case k 2) ∙ go c h e
   where
     g : ℕ → ℕ
@@ -92,8 +89,8 @@ tri-dropped look t case k c h e = shown-is (cornerAt look t case k 0) (cornerAt 
 
 -- all three are there: shown unless one stands twice
 pub tri-has : (look : ℕ → ℕ) (t case k : ℕ) (v : List ℕ) → Has (cornerAt look t case k) v 3
-    → shown (triAt look t case k) ≡ cond (twice (getD v 0 0) (getD v 1 0) (getD v 2 0)) [] (getD v 0 0 ∷ getD v 1 0 ∷ getD v 2 0 ∷ [])
-unfolding triAt
+    → triFlat look t case k ≡ unlessTwice v
+unfolding triFlat triAt unlessTwice
 tri-has look t case k v h =
     let p0 = h 0 (lit< tt) in
     let p1 = h 1 (lit< tt) in
@@ -107,25 +104,25 @@ shown-by : (b : Bool) (x y z : ℕ) → length (cond b (x ∷ y ∷ z ∷ []) []
 shown-by true x y z = lit≤ tt
 shown-by false x y z = lit≤ tt
 
-pub shown-le : (t : Tri) → length (shown t) ≤ 3
-unfolding shown
-shown-le t = shown-by (emitted t) (t .0) (t .1) (t .2)
+pub tri-le : (look : ℕ → ℕ) (t case k : ℕ) → length (triFlat look t case k) ≤ 3
+unfolding triFlat shown
+tri-le look t case k = let r = triAt look t case k in shown-by (emitted r) (r .0) (r .1) (r .2)
 
 pub tet-le : (look : ℕ → ℕ) (t case : ℕ) → case < 16 → length (tetFlat look t case) ≤ 6
 unfolding tetFlat
 tet-le look t case h =
-    omega (arith, each-le 3 (length (mtRow case)) (λ k. shown (triAt look t case k)) (λ k. shown-le (triAt look t case k)), mt-two case h)
+    omega (arith, each-le 3 (length (mtRow case)) (triFlat look t case) (tri-le look t case), mt-two case h)
 
 -- ---- one tetrahedron
 
 pub tet-flat : (look : ℕ → ℕ) (t case : ℕ) → tetFlat look t case ≡ flat (keep emitted (map (onEach look) (map (onEach (edgeIn t)) (mtRow case))))
-unfolding tetFlat triAt cornerAt onEach
+unfolding tetFlat triFlat triAt cornerAt onEach
 tet-flat look t case =
     let l = mtRow case in
     let d : Tri = (0, 0, 0) in
     let f : Tri → Tri = λ r. onEach look (onEach (edgeIn t) r) in
     let first : (k : ℕ) → k < length l → getD (flat l) (3 * k + 0) 0 ≡ getD l k d .0 = λ k h. rw add-zero (flat-at d l k h .0) in
-    each-same (length l) (λ k. shown (triAt look t case k)) (λ k. shown (f (getD l k d))) (λ k h. λ i.
+    each-same (length l) (triFlat look t case) (λ k. shown (f (getD l k d))) (λ k h. λ i.
     shown (look (edgeIn t (first k h i)), look (edgeIn t (flat-at d l k h .1 i)), look (edgeIn t (flat-at d l k h .2 i))))
     ∙ each-list l d (λ r. shown (f r)) ∙ sym (flat-keep f l)
     ∙ ap (λ (x : List Tri). flat (keep emitted x)) (sym (map-map (onEach look) (onEach (edgeIn t)) l))
@@ -175,3 +172,14 @@ slot-in {edges} {i} {nu} {nn} x b =
   where
     within : (i nu nn a b c l n : ℕ) → a < 2 → b ≤ nu * 1 → c ≤ nn * 1 → l < 7 → 7 * (i + 1 + nu + nn) + 7 ≤ n → 7 * (i + a + b + c) + l < n
     within i nu nn a b c l n h1 h2 h3 h4 h5 = omega arith
+
+-- the offsets from a site to the corners of its cell
+pub record Offsets (nu nn c : ℕ) : Type 0 where
+  pub across : nu * (c / 2 % 2) ≤ nu
+  pub up : nn * (c / 4 % 2) ≤ nn
+
+pub steps-le : (nu nn c : ℕ) → Offsets nu nn c
+steps-le nu nn c =
+    let a : nu * (c / 2 % 2) ≤ nu * 1 = mul-le-mul-left nu (omega arith) in
+    let b : nn * (c / 4 % 2) ≤ nn * 1 = mul-le-mul-left nn (omega arith) in
+    record { across = omega arith; up = omega arith }

@@ -1,9 +1,9 @@
--- The laws of the march: cases, the flat lists of its loops, sites and layers, what its triangles are, and finer lookups.
+-- The laws of the march: one cell, its cases from the samples, the flat lists of its loops, sites and layers, what its triangles are, finer lookups, and its answer.
+pub mod Cells
 pub mod Cases
 pub mod Flat
-pub mod Places
 pub mod March
 pub mod Walk
-pub mod Columns
+pub mod Edges
 pub mod Finer
 pub mod Answer

@@ -25,7 +25,7 @@ use Rattle.lattice.proofs.Sites.{uvw-site}
 use Rattle.march.specs.Cells.{Corners, at, caseOf, tetOk, caseNo, onEach, tetTris, cellTris}
 use Rattle.march.specs.March.{Field, okAt, sideAt, vertexAt, cornersOf, vertexIn, resolved, proper, emitted, siteTris, slab, march}
 use Rattle.march.specs.Lists.{deep, layers}
-use Rattle.march.proofs.Cases.{cell-none}
+use Rattle.march.proofs.Cells.{cell-none}
 
 -- ---- a site whose far corner is past the box gives nothing
 
@@ -50,10 +50,6 @@ module _ (n : Sides) (u v w : ℕ) where
   pub out-w : n .nw ≤ w → inBox n u v w ≡ false
   unfolding inBox
   out-w h = ap (λ (x : Bool). ltb u (n .nu) && ltb v (n .nv) && x) (le-ltb w (n .nw) h) ∙ last-false (ltb u (n .nu)) (ltb v (n .nv))
-
-  pub in-box : u < n .nu → v < n .nv → w < n .nw → inBox n u v w ≡ true
-  unfolding inBox
-  in-box hu hv hw = rw (lt-ltb u (n .nu) hu, lt-ltb v (n .nv) hv, lt-ltb w (n .nw) hw)
 
 module _ (F : Field) where
   pub far-missing : (u v w : ℕ) → inBox (F .box) (suc u) (suc v) (suc w) ≡ false → at (cornersOf (okAt F) u v w) 7 ≡ false
@@ -119,7 +115,7 @@ march-sites F =
 
 -- ---- never more than twelve triangles a cell
 
-pub case-small : (ok side : Corners) (t : ℕ) → caseNo ok side t < 16
+case-small : (ok side : Corners) (t : ℕ) → caseNo ok side t < 16
 unfolding caseNo caseOf
 case-small ok side t =
     go (tetOk ok t) (at side (tetCorner t 0)) (at side (tetCorner t 1)) (at side (tetCorner t 2)) (at side (tetCorner t 3))

@@ -1,40 +1,32 @@
 -- What the march's loops over cells, rows and layers need: the cells in the lists, the room, and the joined flat lists. Assumes nothing.
-use mathlib.Core.Path.{_≡_, refl, sym, ap, ap₂, _∙_, fun-ext}
+use mathlib.Core.Path.{_≡_, sym, ap, ap₂, _∙_, fun-ext}
 use mathlib.Core.Bool.{Bool}
-use mathlib.Core.Logic.{⊎-elim}
-use mathlib.Core.List.{List, [], _∷_}
-use Prim.Native.Nat.{ℕ, zero, suc, _+_, _*_, _-_, _/_, _≤_, _<_, pred}
-use native.Mathlib.Nat.{add-zero, mul-le-mul-left, mul-comm}
+use mathlib.Core.List.{List}
+use Prim.Native.Nat.{ℕ, _+_, _*_, _-_, _/_, _≤_, _<_, pred}
+use native.Mathlib.Nat.{mul-le-mul-left, mul-comm}
 use native.Mathlib.Omega.{arith}
-use lib.Dec.{ltb}
-use borrow.Author.Tests.{lt-ltb, le-ltb}
 use lib.ListN.{length, getD, drop, length-drop}
 use lib.Seq.{getD-drop}
 use lib.Ieee.{Float, nan}
 use Rattle.laws.specs.Ranges.{each}
 use Rattle.laws.specs.Written.{Written}
 use Rattle.laws.specs.Triangles.{flat}
-use Rattle.laws.proofs.Ranges.{lt-or, each-same, each-le}
+use Rattle.laws.proofs.Ranges.{each-same, each-le}
 use Rattle.laws.proofs.Written.{written-none}
 use Rattle.laws.proofs.Triangles.{flat-each, flat-length}
 use Rattle.lattice.specs.declared.Sides.{Sides}
-use Rattle.lattice.specs.declared.Uvw.{Uvw}
-use Rattle.lattice.specs.Sites.{SidesFit, InBox, sites, cells, siteOf}
+use Rattle.lattice.specs.Sites.{sites, cells, siteOf}
 use Rattle.lattice.proofs.Sites.{layer-most, sites-most}
 use Rattle.samples.specs.Sides.{inside, finite}
-use Rattle.march.specs.Cells.{Corners, caseNo}
-use Rattle.march.specs.March.{Field, okAt, sideAt, casesAt, siteTris, slab, march}
-use Rattle.march.specs.Samples.{codesOf, codeSum}
+use Rattle.march.specs.March.{Field, siteTris, slab, march}
+use Rattle.cases.specs.Inner.Codes.{codesOf, codeSum}
 use Rattle.march.specs.Lists.{fieldOf, deep, layers}
-use Rattle.march.specs.Loop.{lookUp, cellFlat, rowFlat, InTable, Placed, Lent, Lends}
-use Rattle.march.proofs.Cases.{case-is, outside-none, inside-none}
+use Rattle.march.specs.Inner.Loop.{lookUp, cellFlat, rowFlat, InTable, Lent, Lends}
+use Rattle.march.proofs.Cases.{on-is, outside-none, inside-none}
 use Rattle.march.proofs.Flat.{cell-flat, look-is}
-use Rattle.march.proofs.March.{site-le, slab-cells, slab-le, march-pairs, pred-sub, layers-ok, layers-side}
+use Rattle.march.proofs.March.{site-le, slab-cells, slab-le, march-pairs, pred-sub}
 
 -- ---- one cell
-
-pub cell-placed : (n : Sides) (s : List Float) (edges : List ℕ) (u v : ℕ) → Lent n s edges → u + 1 < n .nu → v + 1 < n .nv → Placed n s u v
-cell-placed n s edges u v p hu hv = record { fit = p .fit; samples = p .samples; on-u = omega arith; on-v = omega arith }
 
 pub record CellRoom (n : Sides) (u v : ℕ) : Type 0 where
   pub width : n .nu ≤ 32
@@ -58,21 +50,21 @@ site-first : (n : Sides) (u v : ℕ) → siteOf n u v 0 ≡ u + n .nu * v
 unfolding siteOf
 site-first n u v = omega arith
 
-module _ (n : Sides) (s : List Float) (h : Float) (edges : List ℕ) (u v : ℕ) where
+module _ (n : Sides) (s : List Float) (h : Float) (edges : List ℕ) (p : Lent n s edges) (u v : ℕ) where
   pub cell-tris : cellFlat (lookUp edges (u + n .nu * v) (n .nu) (n .nu * n .nv)) (codesOf n s h u v) ≡ flat (siteTris (fieldOf n s h edges) u v 0)
   cell-tris =
       cell-flat (fieldOf n s h edges) u v 0 (lookUp edges (u + n .nu * v) (n .nu) (n .nu * n .nv)) (codesOf n s h u v)
       (ap (λ (i : ℕ). lookUp edges i (n .nu) (n .nu * n .nv)) (sym (site-first n u v)) ∙ look-is n s h edges u v 0)
-      (case-is n s h edges u v)
+      (on-is n s h edges (p .fit) (p .samples) u v)
 
   module _ (tris : List ℕ) (at : ℕ) where
     pub outside-written : codeSum (codesOf n s h u v) ≡ 0 → Written tris at (flat (siteTris (fieldOf n s h edges) u v 0)) tris at
     unfolding flat
-    outside-written e = rw (outside-none n s h edges u v e) (written-none tris at)
+    outside-written e = rw (outside-none n s h edges (p .fit) (p .samples) u v e) (written-none tris at)
 
     pub inside-written : codeSum (codesOf n s h u v) ≡ 8 → Written tris at (flat (siteTris (fieldOf n s h edges) u v 0)) tris at
     unfolding flat
-    inside-written e = rw (inside-none n s h edges u v e) (written-none tris at)
+    inside-written e = rw (inside-none n s h edges (p .fit) (p .samples) u v e) (written-none tris at)
 
 -- ---- rows and layers
 
@@ -175,69 +167,3 @@ box-room n s edges tris p = omega (arith, many (n .nu - 1) (n .nv - 1) (n .nw - 
 -- three numbers a triangle
 pub third : (F : Field) (n : ℕ) → n ≡ 0 + length (flat (march F)) → 3 * (n / 3) ≡ n
 third F n e = omega (arith, flat-length (march F))
-
--- ---- the six cases of a site, by the samples from its layer's first site on
-
--- the edge table has no part in them
-pub no-edges : (n : Sides) (s : List Float) (h : Float) (edges : List ℕ) (u v w : ℕ) → casesAt (fieldOf n s h []) u v w ≡ casesAt (fieldOf n s h edges) u v w
-unfolding casesAt okAt sideAt fieldOf
-no-edges n s h edges u v w = refl
-
-layers-cases : (F : Field) (w m : ℕ) → ltb 0 m ≡ ltb (w + 0) (F .box .nw) → ltb 1 m ≡ ltb (suc (w + 0)) (F .box .nw) → (u v : ℕ)
-    → casesAt (layers F w m) u v 0 ≡ casesAt F u v (w + 0)
-unfolding casesAt
-layers-cases F w m low high u v =
-    ap₂ (λ (x y : Corners). each 6 (λ t. caseNo x y t ∷ [])) (layers-ok F w m 0 low high u v) (layers-side F w m 0 low high u v)
-
-pub tail-cases : (n : Sides) (s : List Float) (h : Float) (edges : List ℕ) (u v w : ℕ) → w < n .nw
-    → casesAt (fieldOf (deep n (n .nw - w)) (drop (w * (n .nu * n .nv)) s) h []) u v 0 ≡ casesAt (fieldOf n s h edges) u v w
-unfolding fieldOf
-tail-cases n s h edges u v w l =
-    no-edges (deep n (n .nw - w)) (drop (w * (n .nu * n .nv)) s) h (drop (7 * (w * (n .nu * n .nv))) edges) u v 0
-    ∙ ap (λ (F : Field). casesAt F u v 0) (tail-field n s h edges w (n .nw - w))
-    ∙ layers-cases (fieldOf n s h edges) w (n .nw - w) (low (n .nw) w l) (high (n .nw) w l) u v
-    ∙ ap (λ (k : ℕ). casesAt (fieldOf n s h edges) u v k) (add-zero w)
-  where
-    low : (k w : ℕ) → w < k → ltb 0 (k - w) ≡ ltb (w + 0) k
-    low k w l = lt-ltb 0 (k - w) (omega arith) ∙ sym (lt-ltb (w + 0) k (omega arith))
-
-    high : (k w : ℕ) → w < k → ltb 1 (k - w) ≡ ltb (suc (w + 0)) k
-    high k w l =
-        ⊎-elim (λ a. lt-ltb 1 (k - w) (omega arith) ∙ sym (lt-ltb (suc (w + 0)) k (omega arith)))
-        (λ a. le-ltb (suc zero) (k - w) (omega arith) ∙ sym (le-ltb (suc (w + 0)) k (omega arith))) (lt-or (suc w) k)
-
--- where the site's layer starts, and what is left from there
-pub record SiteRoom (n : Sides) (s : List Float) (w : ℕ) : Type 0 where
-  pub layer : n .nu * n .nv ≤ 1024
-  pub small : w * (n .nu * n .nv) ≤ 32768
-  pub start : w * (n .nu * n .nv) ≤ length s
-
-pub site-room : (n : Sides) (s : List Float) (p : Uvw) → SidesFit n → InBox n p → sites n ≤ length s → SiteRoom n s (p .w)
-unfolding sites
-site-room n s p f b l =
-    let a : n .nu * n .nv * (p .w + 1) ≤ n .nu * n .nv * n .nw = mul-le-mul-left (n .nu * n .nv) (omega (arith, b .on-w)) in
-    let c : n .nu * n .nv * n .nw ≤ 32768 = sites-most n f in
-    record { layer = layer-most n f; small = omega arith; start = omega arith }
-
-pub site-placed : (n : Sides) (s : List Float) (p : Uvw) → SidesFit n → InBox n p → sites n ≤ length s
-    → Placed (deep n (n .nw - p .w)) (drop (p .w * (n .nu * n .nv)) s) (p .u) (p .v)
-unfolding sites
-site-placed n s p f b l = record {
-  fit = record {
-    u-some = f .u-some;
-    u-most = f .u-most;
-    v-some = f .v-some;
-    v-most = f .v-most;
-    w-some = omega (arith, b .on-w);
-    w-most = omega (arith, f .w-most);
-  };
-  samples = rw length-drop (rest (n .nu * n .nv) (p .w) (n .nw - p .w) (length s) (rw (whole (n .nw) (p .w) (b .on-w)) l));
-  on-u = b .on-u;
-  on-v = b .on-v;
-}
-  where
-    whole : (k w : ℕ) → w < k → w + (k - w) ≡ k
-    whole k w h = omega arith
-
-    rest : (x w k m : ℕ) → x * (w + k) ≤ m → x * k ≤ m - w * x
-    rest x w k m h = omega arith

@@ -9,7 +9,7 @@ use Rattle.laws.specs.Triangles.{Tri}
 use Rattle.tables.specs.Edges.{du, dv, dw}
 use Rattle.lattice.specs.declared.Sides.{Sides}
 use Rattle.lattice.specs.Sites.{inBox, siteOf, step}
-use Rattle.march.specs.Cells.{Corners, caseNo, onEach, cellTris}
+use Rattle.march.specs.Cells.{Corners, onEach, cellTris}
 
 -- What a march is over: the box, where a sample is finite, which side it is on, and the vertex of each owned edge by site and label.
 -- Sites go by number. The march is stated for any such lookup of a vertex.
@@ -55,10 +55,7 @@ proper t = not (eqb (t .0) (t .1)) && not (eqb (t .1) (t .2)) && not (eqb (t .0)
 unfoldable pub emitted : Tri → Bool
 emitted t = resolved t && proper t
 
--- the six cases of the site at (u, v, w)
-unfoldable pub casesAt : Field → ℕ → ℕ → ℕ → List ℕ
-casesAt F u v w = each 6 (λ t. caseNo (cornersOf (okAt F) u v w) (cornersOf (sideAt F) u v w) t ∷ [])
-
+-- those of one site
 unfoldable pub siteTris : Field → ℕ → ℕ → ℕ → List Tri
 siteTris F u v w =
     keep emitted (map (onEach (vertexIn (vertexAt F) u v w)) (cellTris (cornersOf (okAt F) u v w) (cornersOf (sideAt F) u v w)))

@@ -31,7 +31,7 @@ fn mark_crossing(masks: &mut [u16], s: usize, t: usize, label: usize, c: Crossin
             if f < 0.5 {
                 set_bit(masks, s, label);
             } else {
-                set_bit(masks, t, label + 7);
+                set_bit(masks, t, label + tables::OWNED_EDGES);
             }
         }
     }
@@ -58,7 +58,7 @@ fn mark_site(n: Sides, samples: &[f64], masks: &mut [u16], p: Uvw, s: usize, h: 
     requires { ⌜ InBox n p × (s ≡ siteOf n (p .u) (p .v) (p .w)) ⌝ }
     ensures { λ _. ⌜ now (masks .exit) ≡ markSite n (now (samples .entry)) h s (now (masks .entry)) ⌝ }
 {
-    for label in 0..7 {
+    for label in 0..tables::OWNED_EDGES {
         mark_label(n, samples, masks, p, s, label, h);
     }
 }
@@ -144,7 +144,7 @@ fn cross_site(n: Sides, samples: &[f64], p: Uvw, s: usize, h: f64) -> usize
     ensures { λ r. ⌜ r ≡ crossSite n (now (samples .entry)) h s ⌝ }
 {
     let mut total = 0;
-    for label in 0..7 {
+    for label in 0..tables::OWNED_EDGES {
         total += crosses_at(n, samples, p, s, label, h);
     }
     total

@@ -7,8 +7,8 @@ use native.Mathlib.Nat.{add-zero}
 use native.Mathlib.Omega.{arith}
 use native.Mathlib.Decide.{ℕ-discrete}
 use lib.Dec.{eqb, ltb}
-use lib.ListN.{length, getD, set, take, drop, replicate, length-set, length-drop, length-append}
-use lib.Seq.{getD-set-same, getD-set-other, getD-take, getD-drop, length-take-le, take-append-le, ext-getD}
+use lib.ListN.{length, getD, set, take, drop, replicate, length-set, length-drop, length-append, replicate-append-replicate}
+use lib.Seq.{getD-set-same, getD-set-other, getD-take, getD-drop, length-take-le, take-append-le, drop-at, drop-drop, ext-getD}
 use borrow.Author.Tests.{ltb-true, lt-ltb, eqb-true, eq-eqb}
 use borrow.Rule.Slice.PartMut.{putMid}
 use Rattle.laws.specs.Bools.{bit}
@@ -17,17 +17,18 @@ use Rattle.laws.specs.Ranges.{fold}
 use Rattle.laws.proofs.Bools.{and-apart, and-yes}
 use Rattle.laws.proofs.Lists.{count-same, count-some, count-find, all-index, all-member, getD-map}
 use Rattle.laws.proofs.Ranges.{fold-keeps}
-use Rattle.laws.proofs.Tails.{tail-is, tail-back}
-use Rattle.pairs.specs.declared.Rec.{Rec}
-use Rattle.pairs.specs.Records.{none, recs, words}
-use Rattle.pairs.specs.Order.{Perm}
-use Rattle.pairs.specs.Sides.{pairCount, next, over, overFlags, sideOf, sides}
-use Rattle.pairs.specs.Runs.{samePair, Front, flagged, crowded, marked}
-use Rattle.pairs.specs.Flags.{sent, pulled, Homed, homeFlags}
-use Rattle.pairs.proofs.Records.{rec-same, recs-length, recs-getD, recs-words, words-length, words-whole}
-use Rattle.pairs.proofs.Order.{perm-length, perm-all}
+use Rattle.sort.specs.declared.Rec.{Rec}
+use Rattle.sort.specs.Records.{none, recs, words}
+use Rattle.sort.specs.Order.{Perm}
+use Rattle.pairs.specs.Sides.{pairCount, next, crowded, crowdedFlags}
+use Rattle.pairs.specs.Inner.Listing.{sideOf, sides}
+use Rattle.pairs.specs.Inner.Runs.{samePair, Front, flagged, crowdedAmong, marked}
+use Rattle.pairs.specs.Inner.Flags.{sent, pulled, Homed, homeFlags}
+use Rattle.sort.proofs.Records.{rec-same, recs-length, recs-getD, recs-words, words-length, words-whole}
+use Rattle.sort.proofs.Order.{perm-length, perm-all}
 use Rattle.pairs.proofs.Runs.{same-ends, same-left, ends-same, run-count, marked-length}
-use Rattle.pairs.proofs.Sides.{sides-length, sides-at, pair-count, pair-ends, flags-length, over-flag-at}
+use Rattle.pairs.proofs.Sides.{pair-ends, flags-length, crowded-flag-at}
+use Rattle.pairs.proofs.Listing.{sides-length, sides-at, pair-count}
 
 -- ---- sending
 
@@ -176,30 +177,30 @@ module _ (s : List ℕ) (whole : length s % 3 ≡ 0) (l : List Rec) (perm : Perm
       sym c ∙ count-pairs i h
       ∙ pair-ends (getD s k 0) (getD s (next k) 0) (x .low) (x .high) s (q .0 ∙ ap (λ (y : Rec). y .low) g) (q .1 ∙ ap (λ (y : Rec). y .high) g)
 
-  -- a record's pair is crowded just where its side is over
-  crowded-over : (j : ℕ) → j < length s → crowded l (getD l j none) ≡ over s (at j)
-  unfolding crowded over
-  crowded-over j h = ap (ltb 2) (count-pairs j h)
+  -- a record's pair is crowdedAmong just where its side is crowded
+  among-crowded : (j : ℕ) → j < length s → crowdedAmong l (getD l j none) ≡ crowded s (at j)
+  unfolding crowdedAmong crowded
+  among-crowded j h = ap (ltb 2) (count-pairs j h)
 
   module _ (t : List ℕ) (size : length t ≡ length s * 3) (flags : recs t ≡ marked l l) where
     word-side : (j : ℕ) → j < length s → getD t (j * 3 + 2) 0 ≡ at j
     unfolding marked flagged
     word-side j h =
         sym (ap (λ (r : Rec). r .side) (recs-getD t j (omega arith))) ∙ ap (λ (m : List Rec). getD m j none .side) flags
-        ∙ ap (λ (r : Rec). r .side) (getD-map (λ x. flagged (crowded l x) x) l j none none (omega (arith, count-is)))
+        ∙ ap (λ (r : Rec). r .side) (getD-map (λ x. flagged (crowdedAmong l x) x) l j none none (omega (arith, count-is)))
 
-    word-flag : (j : ℕ) → j < length s → getD t (j * 3 + 1) 0 ≡ bit (over s (at j))
+    word-flag : (j : ℕ) → j < length s → getD t (j * 3 + 1) 0 ≡ bit (crowded s (at j))
     unfolding marked flagged
     word-flag j h =
         sym (ap (λ (r : Rec). r .high) (recs-getD t j (omega arith))) ∙ ap (λ (m : List Rec). getD m j none .high) flags
-        ∙ ap (λ (r : Rec). r .high) (getD-map (λ x. flagged (crowded l x) x) l j none none (omega (arith, count-is)))
-        ∙ ap bit (crowded-over j h)
+        ∙ ap (λ (r : Rec). r .high) (getD-map (λ x. flagged (crowdedAmong l x) x) l j none none (omega (arith, count-is)))
+        ∙ ap bit (among-crowded j h)
 
     pub homed : Homed t
     homed j h = omega (arith, word-side j (omega arith), at-home j (omega arith) .0)
 
     -- all flags have come to the front
-    pub arrived : take (length s) (fold pulled (length t / 3) (fold sent (length t / 3) t)) ≡ overFlags s
+    pub arrived : take (length s) (fold pulled (length t / 3) (fold sent (length t / 3) t)) ≡ crowdedFlags s
     arrived =
         let n : ℕ = length t / 3 in
         let u : List ℕ = fold sent n t in
@@ -207,13 +208,13 @@ module _ (s : List ℕ) (whole : length s % 3 ≡ 0) (l : List Rec) (perm : Perm
         let lu : length u ≡ length t = sent-length n t in
         let lv : length v ≡ length u = pulled-length n u in
         let lw : length (take (length s) v) ≡ length s = length-take-le (length s) v (omega arith) in
-        ext-getD 0 (take (length s) v) (overFlags s) (lw ∙ sym (flags-length s)) (λ k h.
+        ext-getD 0 (take (length s) v) (crowdedFlags s) (lw ∙ sym (flags-length s)) (λ k h.
         let lt : k < length s = omega arith in
         let f = found k lt in
         let e : getD t (f .0 * 3 + 2) 0 ≡ k = word-side (f .0) (f .1) ∙ f .2 in
-        let g : getD u (getD t (f .0 * 3 + 2) 0 * 3) 0 ≡ bit (over s (getD t (f .0 * 3 + 2) 0)) =
-        sent-at (λ i. bit (over s i)) t homed (λ j b. word-flag j (omega arith) ∙ ap (λ (i : ℕ). bit (over s i)) (sym (word-side j (omega arith)))) n (omega arith) (f .0) (omega (arith, f .1)) in
-        getD-take (length s) v k 0 lt ∙ pulled-at n u (omega arith) k (omega arith) ∙ (rw e at g) ∙ sym (over-flag-at s k lt))
+        let g : getD u (getD t (f .0 * 3 + 2) 0 * 3) 0 ≡ bit (crowded s (getD t (f .0 * 3 + 2) 0)) =
+        sent-at (λ i. bit (crowded s i)) t homed (λ j b. word-flag j (omega arith) ∙ ap (λ (i : ℕ). bit (crowded s i)) (sym (word-side j (omega arith)))) n (omega arith) (f .0) (omega (arith, f .1)) in
+        getD-take (length s) v k 0 lt ∙ pulled-at n u (omega arith) k (omega arith) ∙ (rw e at g) ∙ sym (crowded-flag-at s k lt))
 
 -- ---- the records in words, stage by stage: sorted, flagged, sent, pulled
 
@@ -224,7 +225,7 @@ marked-homed s t e f h j b =
     let b′ : j < length s / 3 = omega arith in
     let g : getD t (j * 3 + 2) 0 ≡ getD s (j * 3 + 2) 0 =
     sym (ap (λ (r : Rec). r .side) (recs-getD t j b)) ∙ ap (λ (m : List Rec). getD m j none .side) f
-    ∙ ap (λ (r : Rec). r .side) (getD-map (λ x. flagged (crowded (recs s) x) x) (recs s) j none none (omega (arith, recs-length s)))
+    ∙ ap (λ (r : Rec). r .side) (getD-map (λ x. flagged (crowdedAmong (recs s) x) x) (recs s) j none none (omega (arith, recs-length s)))
     ∙ ap (λ (r : Rec). r .side) (recs-getD s j b′) in
     omega (arith, g, h j b′)
 
@@ -236,6 +237,12 @@ home-is s t moved front whole e f g h =
     let n : length moved ≡ length s = ap length g ∙ sent-length (length t / 3) t ∙ e in
     h ∙ ap₂ (λ (k : ℕ) (m : List ℕ). fold pulled (k / 3) m) n (g ∙ ap₂ (λ (k : ℕ) (m : List ℕ). fold sent (k / 3) m) e w)
 
+zeros-joined : (a b c : ℕ) (x y : List ℕ) → a + b ≡ c → x ≡ replicate a 0 → y ≡ replicate b 0 → x ++ y ≡ replicate c 0
+zeros-joined a b c x y e p q =
+    let zero : ℕ = 0 in
+    let both : replicate a zero ++ replicate b zero ≡ replicate (a + b) zero = replicate-append-replicate a b zero in
+    ap₂ (λ (u v : List ℕ). u ++ v) p q ∙ both ∙ ap (λ (j : ℕ). replicate j zero) e
+
 -- in front of the room the records of the sides, sorted
 module _ (s : List ℕ) (whole : length s % 3 ≡ 0) (front : List ℕ) (size : length front ≡ length s * 3) (perm : Perm (sides s) (recs front)) where
   pub listed-homed : Homed front
@@ -246,7 +253,7 @@ module _ (s : List ℕ) (whole : length s % 3 ≡ 0) (front : List ℕ) (size : 
   flagged-words =
       omega (arith, words-length (marked (recs front) (recs front)), marked-length (recs front) (recs front), recs-length front)
 
-  pub home-flags : take (length s) (homeFlags front) ≡ overFlags s
+  pub home-flags : take (length s) (homeFlags front) ≡ crowdedFlags s
   unfolding homeFlags
   home-flags =
       let t : List ℕ = words (marked (recs front) (recs front)) in
@@ -254,14 +261,16 @@ module _ (s : List ℕ) (whole : length s % 3 ≡ 0) (front : List ℕ) (size : 
       ∙ arrived s whole (recs front) perm t (flagged-words ∙ size) (recs-words (marked (recs front) (recs front)))
 
   -- the flags in front of the room, then zeros
-  pub cleared : (room home end : List ℕ) → length front ≤ length room → length home ≡ length front → home ≡ homeFlags front
-      → end ≡ replicate (length (take (length (home ++ drop (length s * 3) room) - length s) (drop (length s) (home ++ drop (length s * 3) room)))) 0
-      → putMid (length s) (length (home ++ drop (length s * 3) room) - length s) (home ++ drop (length s * 3) room) end ≡ overFlags s ++ replicate (length room - length s) 0
-  cleared room home end fits kept is e =
-      let all : List ℕ = home ++ drop (length s * 3) room in
-      let whole-length : length all ≡ length room = omega (arith, length-append home (drop (length s * 3) room), length-drop (length s * 3) room) in
-      let n : length (take (length all - length s) (drop (length s) all)) ≡ length room - length s =
-      omega (arith, ap length (tail-is (length s) all), length-drop (length s) all) in
-      let flags : take (length s) all ≡ overFlags s =
-      take-append-le (length s) home (drop (length s * 3) room) (omega arith) ∙ ap (λ (q : List ℕ). take (length s) q) is ∙ home-flags in
-      tail-back (length s) all end ∙ ap₂ (λ (a b : List ℕ). a ++ b) flags (e ∙ ap (λ (k : ℕ). replicate k 0) n)
+  pub cleared : (n : ℕ) (behind home end : List ℕ) → length s * 3 ≤ n → behind ≡ replicate (n - length s * 3) 0 → length home ≡ length front → home ≡ homeFlags front
+      → end ≡ replicate (length (take (length s * 3 - length s) (drop (length s) (home ++ behind)))) 0
+      → putMid (length s) (length s * 3 - length s) (home ++ behind) end ≡ crowdedFlags s ++ replicate (n - length s) 0
+  cleared n behind home end fits zeros kept is e =
+      let k : ℕ = length s in
+      let w : ℕ = length s * 3 in
+      let all : List ℕ = home ++ behind in
+      let flags : take k all ≡ crowdedFlags s = take-append-le k home behind (omega arith) ∙ ap (λ (q : List ℕ). take k q) is ∙ home-flags in
+      let middle : length (take (w - k) (drop k all)) ≡ w - k = length-take-le (w - k) (drop k all) (omega (arith, length-drop k all, length-append home behind)) in
+      let sum : k + (w - k) ≡ w = omega arith in
+      let last : drop (w - k) (drop k all) ≡ behind = drop-drop (w - k) k all ∙ ap (λ (j : ℕ). drop j all) sum ∙ drop-at home behind w (omega arith) in
+      let gap : w - k + (n - w) ≡ n - k = omega arith in
+      ap₂ (λ (x y : List ℕ). x ++ y) flags (zeros-joined (w - k) (n - w) (n - k) end (drop (w - k) (drop k all)) gap (e ∙ ap (λ (j : ℕ). replicate j 0) middle) (last ∙ zeros))

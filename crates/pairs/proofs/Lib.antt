@@ -1,10 +1,6 @@
 -- Laws that several proofs use, and those of crates above.
-pub mod Records
-pub mod Order
-pub mod Sinking
-pub mod Dealing
-pub mod Depth
-pub mod Runs
 pub mod Sides
+pub mod Listing
+pub mod Runs
 pub mod Flags
 pub mod Determined

@@ -15,12 +15,12 @@ use Rattle.laws.specs.Lists.{count, All}
 use Rattle.laws.proofs.Bools.{and-apart, bool-ext}
 use Rattle.laws.proofs.Lists.{count-append, count-same, all-count, all-count-none, all-append, all-map, all-index, all-member, all-drop-more, map-append, map-agree}
 use Rattle.laws.proofs.Tails.{tail-is, tail-back}
-use Rattle.pairs.specs.declared.Rec.{Rec}
-use Rattle.pairs.specs.Records.{none, recs, pairOf, keyOf}
-use Rattle.pairs.specs.Order.{Sorted}
-use Rattle.pairs.specs.Runs.{samePair, Front, flagged, crowded, marked, FrontMarked}
-use Rattle.pairs.proofs.Records.{recs-take, recs-drop, recs-append}
-use Rattle.pairs.proofs.Order.{Fit}
+use Rattle.sort.specs.declared.Rec.{Rec}
+use Rattle.sort.specs.Records.{none, recs, pairOf, keyOf}
+use Rattle.sort.specs.Order.{Sorted}
+use Rattle.pairs.specs.Inner.Runs.{samePair, Front, flagged, crowdedAmong, marked, FrontMarked}
+use Rattle.sort.proofs.Records.{recs-take, recs-drop, recs-append}
+use Rattle.sort.proofs.Order.{Fit}
 
 -- ---- the same pair
 
@@ -134,7 +134,7 @@ walked-none l = record { apart = tt; flags = refl }
 
 pub marked-length : (l m : List Rec) → length (marked l m) ≡ length m
 unfolding marked
-marked-length l m = length-map m (λ x. flagged (crowded l x) x)
+marked-length l m = length-map m (λ x. flagged (crowdedAmong l x) x)
 
 module _ {l m : List Rec} {i : ℕ} (within : i ≤ length l) (w : Walked l m i) where
   head-length : length (marked l (take i l)) ≡ i
@@ -159,7 +159,7 @@ module _ {l m : List Rec} {i : ℕ} (within : i ≤ length l) (w : Walked l m i)
 
   -- so the flags of the run are those of its records
   run-flags : {r : ℕ} → Front (drop i l) r → map (flagged (ltb 2 r)) (take r (drop i l)) ≡ marked l (take r (drop i l))
-  unfolding marked crowded
+  unfolding marked crowdedAmong
   run-flags {r} f =
       let x : Rec = getD (drop i l) 0 none in
       map-agree (flagged (ltb 2 r)) (λ y. flagged (ltb 2 (count (samePair y) l)) y) (take r (drop i l))
@@ -183,7 +183,7 @@ module _ {l m : List Rec} {i : ℕ} (within : i ≤ length l) (w : Walked l m i)
             (λ y s. all-map (λ z. samePair x z ≡ false) (λ z. samePair y z ≡ false) (λ z n. sym (same-left x y s z) ∙ n) (drop r (drop i l)) (f .after)) (take r (drop i l)) (f .same)));
         flags =
             ap₂ (λ (a b : List Rec). a ++ b) walked-head (p .flags)
-            ∙ rw (run-flags f, d, e, map-append (λ y. flagged (crowded l y) y) (take i l) (take r (drop i l)), append-assoc);
+            ∙ rw (run-flags f, d, e, map-append (λ y. flagged (crowdedAmong l y) y) (take i l) (take r (drop i l)), append-assoc);
       }
 
   pub walked-done : length l ≤ i → m ≡ marked l l

@@ -1,29 +1,23 @@
 -- Laws of the sides of triangles: each by its number, how often a pair is counted, and what the flags say. Assumes nothing.
 use mathlib.Core.Path.{_≡_, refl, sym, ap, ap₂, _∙_}
-use mathlib.Core.Bool.{Bool, true, _&&_, _||_, or-comm, or-true}
+use mathlib.Core.Bool.{true, _&&_, or-comm}
 use mathlib.Core.Logic.{_⊎_, inl, inr, ⊎-elim}
 use mathlib.Core.List.{List, [], _∷_, _++_}
-use Prim.Native.Nat.{ℕ, zero, suc, _+_, _*_, _/_, _%_, _≤_, _<_, min, max}
-use native.Mathlib.Nat.{zero-add}
+use Prim.Native.Nat.{ℕ, zero, suc, _+_, _*_, _/_, _%_, _<_, min, max}
 use native.Mathlib.Omega.{arith}
-use native.Mathlib.Decide.{ℕ-discrete, decLt}
+use native.Mathlib.Decide.{decLt}
 use lib.Dec.{eqb}
 use lib.ListN.{length, getD}
-use borrow.Author.Tests.{eqb-true, eq-eqb, ltb-true, lt-ltb}
+use borrow.Author.Tests.{eqb-true, ltb-true, lt-ltb}
 use Rattle.laws.specs.Bools.{bit}
 use Rattle.laws.specs.Lists.{count}
 use Rattle.laws.specs.Couples.{Pair, fromTo}
 use Rattle.laws.specs.Triangles.{Tri, flat, trisOf, sidesOf}
-use Rattle.laws.proofs.Bools.{and-apart, or-apart, bool-ext, bit-or, bit-T, T-true}
+use Rattle.laws.proofs.Bools.{and-apart, or-apart, bit-or, bit-T, T-true}
 use Rattle.laws.proofs.Lists.{count-append, count-same, count-find}
 use Rattle.laws.proofs.Ranges.{each-one-length, each-one-at}
 use Rattle.laws.proofs.Triangles.{tris-flat}
-use Rattle.pairs.specs.declared.Rec.{Rec}
-use Rattle.pairs.specs.Records.{none}
-use Rattle.pairs.specs.Sides.{directed, dirCount, joins, pairCount, next, over, overFlags, sideOf, numbered, sides}
-use Rattle.pairs.specs.Runs.{samePair}
-use Rattle.pairs.proofs.Records.{rec-same}
-use Rattle.pairs.proofs.Runs.{same-ends, ends-same}
+use Rattle.pairs.specs.Sides.{directed, dirCount, joins, pairCount, next, crowded, crowdedFlags}
 
 -- ---- each side by its number
 
@@ -76,88 +70,11 @@ pub pair-append : (x y : ℕ) (s t : List ℕ) → length s % 3 ≡ 0 → pairCo
 unfolding pairCount
 pair-append x y s t h = ap (count (joins x y)) (directed-append s t h) ∙ count-append (joins x y) (directed s) (directed t)
 
-numbered-length : (n : ℕ) (ps : List Pair) → length (numbered n ps) ≡ length ps
-unfolding numbered
-numbered-length n [] = refl
-numbered-length n (p ∷ ps) = ap suc (numbered-length (suc n) ps)
-
-numbered-at : (n : ℕ) (ps : List Pair) (k : ℕ) → k < length ps → getD (numbered n ps) k none ≡ sideOf (n + k) (getD ps k (0, 0))
-unfolding numbered
-numbered-at n [] k h = let z : ⊥ = omega arith in absurd z
-numbered-at n (p ∷ ps) zero h = let e : n ≡ n + 0 = omega arith in ap (λ (j : ℕ). sideOf j p) e
-numbered-at n (p ∷ ps) (suc k) h =
-    let e : suc n + k ≡ n + suc k = omega arith in
-    numbered-at (suc n) ps k (omega arith) ∙ ap (λ (j : ℕ). sideOf j (getD ps k (0, 0))) e
-
-numbered-count : (p : Rec → Bool) (q : Pair → Bool) → ((k : ℕ) (x : Pair) → p (sideOf k x) ≡ q x) → (n : ℕ) (ps : List Pair) → count p (numbered n ps) ≡ count q ps
-unfolding numbered count
-numbered-count p q e n [] = refl
-numbered-count p q e n (x ∷ ps) = ap₂ (λ (c : Bool) (k : ℕ). bit c + k) (e n x) (numbered-count p q e (suc n) ps)
-
-module _ (s : List ℕ) (whole : length s % 3 ≡ 0) where
-  pub sides-length : length (sides s) ≡ length s
-  unfolding sides
-  sides-length = numbered-length 0 (directed s) ∙ omega (arith, directed-length s, whole)
-
-  pub sides-at : (k : ℕ) → k < length s → getD (sides s) k none ≡ sideOf k (getD s k 0, getD s (next k) 0)
-  unfolding sides
-  sides-at k h =
-      numbered-at 0 (directed s) k (omega (arith, directed-length s, whole))
-      ∙ ap₂ (λ (j : ℕ) (p : Pair). sideOf j p) (zero-add k) (directed-at s k (omega (arith, whole)))
-
-  -- side k from its two corners, the lower one first
-  pub side-up : (k n : ℕ) → k < length s → n ≡ next k → getD s k 0 < getD s n 0 → record { low = getD s k 0; high = getD s n 0; side = k } ≡ getD (sides s) k none
-  unfolding sideOf
-  side-up k n h e lt =
-      let q : getD s n 0 ≡ getD s (next k) 0 = ap (λ (j : ℕ). getD s j 0) e in
-      rec-same (record { low = getD s k 0; high = getD s n 0; side = k }) (sideOf k (getD s k 0, getD s (next k) 0)) (omega arith) (omega arith) refl
-      ∙ sym (sides-at k h)
-
-  pub side-down : (k n : ℕ) → k < length s → n ≡ next k → getD s n 0 ≤ getD s k 0 → record { low = getD s n 0; high = getD s k 0; side = k } ≡ getD (sides s) k none
-  unfolding sideOf
-  side-down k n h e le =
-      let q : getD s n 0 ≡ getD s (next k) 0 = ap (λ (j : ℕ). getD s j 0) e in
-      rec-same (record { low = getD s n 0; high = getD s k 0; side = k }) (sideOf k (getD s k 0, getD s (next k) 0)) (omega arith) (omega arith) refl
-      ∙ sym (sides-at k h)
-
-  pub next-within : (k : ℕ) → k < length s → next k < length s
-  unfolding next
-  next-within k h = omega (arith, whole)
+pub next-within : (s : List ℕ) → length s % 3 ≡ 0 → (k : ℕ) → k < length s → next k < length s
+unfolding next
+next-within s whole k h = omega (arith, whole)
 
 -- ---- counts
-
--- the side p has the ends x and y just where its record has the pair of the side from x to y
-pub joins-same : (x y j k : ℕ) (p : Pair) → joins x y p ≡ samePair (sideOf j (x, y)) (sideOf k p)
-unfolding joins fromTo sideOf
-joins-same x y j k p =
-    let u : ℕ = p .0 in
-    let v : ℕ = p .1 in
-    bool-ext (eqb u x && eqb v y || eqb u y && eqb v x) (samePair (sideOf j (x, y)) (sideOf k p))
-    (λ e.
-    ⊎-elim
-    (λ f. (let g = and-apart (eqb u x) (eqb v y) f in
-    let eu : u ≡ x = eqb-true u x (g .0) in
-    let ev : v ≡ y = eqb-true v y (g .1) in
-    ends-same (sideOf j (x, y)) (sideOf k p) (omega arith) (omega arith)))
-    (λ f. (let g = and-apart (eqb u y) (eqb v x) f in
-    let eu : u ≡ y = eqb-true u y (g .0) in
-    let ev : v ≡ x = eqb-true v x (g .1) in
-    ends-same (sideOf j (x, y)) (sideOf k p) (omega arith) (omega arith)))
-    (or-apart (eqb u x && eqb v y) (eqb u y && eqb v x) e))
-    (λ e. back (same-ends (sideOf j (x, y)) (sideOf k p) e .0) (same-ends (sideOf j (x, y)) (sideOf k p) e .1))
-  where
-    back : min x y ≡ min (p .0) (p .1) → max x y ≡ max (p .0) (p .1) → eqb (p .0) x && eqb (p .1) y || eqb (p .0) y && eqb (p .1) x ≡ true
-    back e f =
-        elim (ℕ-discrete (p .0) x) [
-          | yes q ↦ rw (eq-eqb (p .0) x q, eq-eqb (p .1) y (omega (arith, q)))
-          | no n ↦
-              rw (eq-eqb (p .0) y (omega (arith, n)), eq-eqb (p .1) x (omega (arith, n))) (or-true (eqb (p .0) x && eqb (p .1) y))
-        ]
-
--- the records with one pair are as many as the sides with its ends
-pub pair-count : (x y j : ℕ) (s : List ℕ) → count (samePair (sideOf j (x, y))) (sides s) ≡ pairCount x y s
-unfolding sides pairCount
-pair-count x y j s = numbered-count (samePair (sideOf j (x, y))) (joins x y) (λ k p. sym (joins-same x y j k p)) 0 (directed s)
 
 pub pair-turn : (x y : ℕ) (s : List ℕ) → pairCount x y s ≡ pairCount y x s
 unfolding pairCount joins
@@ -197,29 +114,29 @@ pair-dir x y n s = joins-count x y n (directed s)
 
 -- ---- the flags
 
-pub flags-length : (s : List ℕ) → length (overFlags s) ≡ length s
-unfolding overFlags
-flags-length s = each-one-length (length s) (λ k. bit (over s k))
+pub flags-length : (s : List ℕ) → length (crowdedFlags s) ≡ length s
+unfolding crowdedFlags
+flags-length s = each-one-length (length s) (λ k. bit (crowded s k))
 
-pub over-flag-at : (s : List ℕ) (k : ℕ) → k < length s → getD (overFlags s) k 0 ≡ bit (over s k)
-unfolding overFlags
-over-flag-at s k h = each-one-at 0 (length s) (λ k. bit (over s k)) k h
+pub crowded-flag-at : (s : List ℕ) (k : ℕ) → k < length s → getD (crowdedFlags s) k 0 ≡ bit (crowded s k)
+unfolding crowdedFlags
+crowded-flag-at s k h = each-one-at 0 (length s) (λ k. bit (crowded s k)) k h
 
 -- a side with flag 1 has a pair that is a side more than twice
-pub flag-over : (s : List ℕ) (k : ℕ) → k < length s → getD (overFlags s) k 0 ≡ 1 → 2 < pairCount (getD s k 0) (getD s (next k) 0) s
-unfolding over
-flag-over s k h e =
-    ltb-true 2 (pairCount (getD s k 0) (getD s (next k) 0) s) (T-true (over s k) (bit-T (over s k) (sym (over-flag-at s k h) ∙ e)))
+pub flag-crowded : (s : List ℕ) (k : ℕ) → k < length s → getD (crowdedFlags s) k 0 ≡ 1 → 2 < pairCount (getD s k 0) (getD s (next k) 0) s
+unfolding crowded
+flag-crowded s k h e =
+    ltb-true 2 (pairCount (getD s k 0) (getD s (next k) 0) s) (T-true (crowded s k) (bit-T (crowded s k) (sym (crowded-flag-at s k h) ∙ e)))
 
-over-flag : (s : List ℕ) (k : ℕ) → k < length s → 2 < pairCount (getD s k 0) (getD s (next k) 0) s → getD (overFlags s) k 0 ≡ 1
-unfolding over bit
-over-flag s k h g = over-flag-at s k h ∙ ap bit (lt-ltb 2 (pairCount (getD s k 0) (getD s (next k) 0) s) g)
+crowded-flag : (s : List ℕ) (k : ℕ) → k < length s → 2 < pairCount (getD s k 0) (getD s (next k) 0) s → getD (crowdedFlags s) k 0 ≡ 1
+unfolding crowded bit
+crowded-flag s k h g = crowded-flag-at s k h ∙ ap bit (lt-ltb 2 (pairCount (getD s k 0) (getD s (next k) 0) s) g)
 
 -- a pair that is a side more than twice has a side with flag 1
-pub over-side : (s : List ℕ) → length s % 3 ≡ 0 → (x y : ℕ) → 2 < pairCount x y s
-    → (k : ℕ) × (k < length s) × (getD (overFlags s) k 0 ≡ 1) × (((getD s k 0 ≡ x) × (getD s (next k) 0 ≡ y)) ⊎ ((getD s k 0 ≡ y) × (getD s (next k) 0 ≡ x)))
+pub crowded-side : (s : List ℕ) → length s % 3 ≡ 0 → (x y : ℕ) → 2 < pairCount x y s
+    → (k : ℕ) × (k < length s) × (getD (crowdedFlags s) k 0 ≡ 1) × (((getD s k 0 ≡ x) × (getD s (next k) 0 ≡ y)) ⊎ ((getD s k 0 ≡ y) × (getD s (next k) 0 ≡ x)))
 unfolding pairCount joins fromTo
-over-side s whole x y h =
+crowded-side s whole x y h =
     let f = count-find (0, 0) (joins x y) (directed s) (omega arith) in
     let k : ℕ = f .0 in
     let lt : k < length s = omega (arith, f .1, directed-length s) in
@@ -231,23 +148,23 @@ over-side s whole x y h =
     (λ q. (let g = and-apart (eqb a x) (eqb b y) q in
     let ea : a ≡ x = eqb-true a x (g .0) in
     let eb : b ≡ y = eqb-true b y (g .1) in
-    (k, lt, over-flag s k lt (rw (ea, eb) h), inl (ea, eb))))
+    (k, lt, crowded-flag s k lt (rw (ea, eb) h), inl (ea, eb))))
     (λ q. (let g = and-apart (eqb a y) (eqb b x) q in
     let ea : a ≡ y = eqb-true a y (g .0) in
     let eb : b ≡ x = eqb-true b x (g .1) in
-    (k, lt, over-flag s k lt (rw (ea, eb, pair-turn y x s) h), inr (ea, eb))))
+    (k, lt, crowded-flag s k lt (rw (ea, eb, pair-turn y x s) h), inr (ea, eb))))
     (or-apart (eqb a x && eqb b y) (eqb a y && eqb b x) p)
 
 -- so a vertex is an end of such a pair just where it is an end of a side with flag 1
-pub over-vertex : (s : List ℕ) → length s % 3 ≡ 0 → (x : ℕ) → ((y : ℕ) × (2 < pairCount x y s))
-    → (k : ℕ) × (k < length s) × (getD (overFlags s) k 0 ≡ 1) × ((getD s k 0 ≡ x) ⊎ (getD s (next k) 0 ≡ x))
-over-vertex s whole x h =
-    let f = over-side s whole x (h .0) (h .1) in
+pub crowded-vertex : (s : List ℕ) → length s % 3 ≡ 0 → (x : ℕ) → ((y : ℕ) × (2 < pairCount x y s))
+    → (k : ℕ) × (k < length s) × (getD (crowdedFlags s) k 0 ≡ 1) × ((getD s k 0 ≡ x) ⊎ (getD s (next k) 0 ≡ x))
+crowded-vertex s whole x h =
+    let f = crowded-side s whole x (h .0) (h .1) in
     (f .0, f .1, f .2, ⊎-elim (λ e. inl (e .0)) (λ e. inr (e .1)) (f .3))
 
-pub vertex-over : (s : List ℕ) (x k : ℕ) → k < length s → getD (overFlags s) k 0 ≡ 1 → ((getD s k 0 ≡ x) ⊎ (getD s (next k) 0 ≡ x)) → (y : ℕ) × (2 < pairCount x y s)
-vertex-over s x k h e o =
-    let f = flag-over s k h e in
+pub vertex-crowded : (s : List ℕ) (x k : ℕ) → k < length s → getD (crowdedFlags s) k 0 ≡ 1 → ((getD s k 0 ≡ x) ⊎ (getD s (next k) 0 ≡ x)) → (y : ℕ) × (2 < pairCount x y s)
+vertex-crowded s x k h e o =
+    let f = flag-crowded s k h e in
     let a : ℕ = getD s k 0 in
     let b : ℕ = getD s (next k) 0 in
     ⊎-elim (λ q. (b, omega (arith, f, ap (λ (z : ℕ). pairCount z b s) q))) (λ q. (a, omega (arith, f, pair-turn a b s, ap (λ (z : ℕ). pairCount z a s) q))) o

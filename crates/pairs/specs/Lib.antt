@@ -1,7 +1,3 @@
--- What the promises of this crate cite: records in words, their order, the sides of triangles and their counts, runs of one pair, flags.
-pub mod Records
-pub mod Depth
-pub mod Order
+-- What the promises of this crate cite: the sides of triangles, how often each pair is a side, and the flags of the sides.
 pub mod Sides
-pub mod Runs
-pub mod Flags
+pub mod Inner

@@ -1,5 +1,5 @@
 // The sides of a few small meshes, filled and sorted, and the flags of those whose pair is a side more than twice: each room word by word.
-ghost use Rattle.pairs.specs.Sides.{Wide};
+ghost use Rattle.pairs.specs.Inner.Listing.{Room};
 use libc::STDOUT_FILENO;
 
 // A word as one sign: 0 to 9, then a to z.
@@ -32,7 +32,7 @@ fn show(room: &[u32]) {
 }
 
 fn flags(tris: &[u32], room: &mut [u32])
-    requires { ⌜ Wide (now tris) (now room) ⌝ }
+    requires { ⌜ Room (now tris) (now room) ⌝ }
 {
     pairs::over_sides(tris, room);
     show(room);
@@ -44,10 +44,10 @@ fn main() {
     let mut room = [0u32; 27];
     pairs::fill(&fan, &mut room);
     show(&room);
-    pairs::sort(&mut room);
+    sort::sort(&mut room);
     show(&room);
     flags(&fan, &mut room);
-    pairs::clear(&mut room);
+    sort::clear(&mut room);
     show(&room);
     // With words to count by: one for each vertex, and too few.
     let mut wide = [9u32; 32];
@@ -66,6 +66,6 @@ fn main() {
     flags(&fan[..0], &mut room[..0]);
     // Words past the last whole record stay.
     let mut odd: [u32; 8] = [7, 8, 9, 7, 8, 1, 4, 3];
-    pairs::sort(&mut odd);
+    sort::sort(&mut odd);
     show(&odd);
 }

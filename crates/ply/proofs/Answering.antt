@@ -1,14 +1,13 @@
 -- The readers' ways out. Assumes nothing.
-use mathlib.Core.Path.{_≡_, refl, ap, ap₂}
+use mathlib.Core.Path.{_≡_, refl, ap₂}
 use mathlib.Core.List.{List}
 use Prim.Native.Nat.{ℕ, _+_, _*_, _≤_, _<_}
 use native.Mathlib.Omega.{arith}
 use lib.ListN.{length}
 use Rattle.laws.specs.Written.{Written}
-use Rattle.ply.specs.declared.Counts.{Counts}
-use Rattle.ply.specs.Form.{countOf, OfKind}
-use Rattle.ply.specs.Parts.{wordsIn, facesIn, Whole, Placed}
-use Rattle.ply.specs.Answers.{counted, countsOf, SizesOf, known, RoomFor, Unstored, no-place, ReadOf, stored}
+use Rattle.ply_write.specs.Form.{countOf, OfKind}
+use Rattle.ply.specs.Inner.Parts.{wordsIn, facesIn, Whole, Placed}
+use Rattle.ply.specs.Answers.{counted, countsOf, SizesOf, known, Unstored, no-place, ReadOf, stored}
 use Rattle.ply.proofs.Reading.{words-in-length, faces-in-length}
 
 module _ (s : List ℕ) (v f next : ℕ) (w : Whole s v f next) where

@@ -4,9 +4,9 @@ use mathlib.Core.List.{[]}
 use native.Mathlib.Omega.{arith}
 use Rattle.laws.specs.Lists.{All}
 use Rattle.ply.specs.declared.Counts.{Counts}
-use Rattle.ply.specs.Form.{PlyFile, OfKind}
+use Rattle.ply_write.specs.Form.{PlyFile}
 use Rattle.ply.specs.Answers.{counted, SizesOf}
-use Rattle.ply.specs.Example.{exampleWords, exampleTriangles, exampleFile, emptyFile, file-is, empty-is}
+use Rattle.ply_write.specs.Example.{exampleWords, exampleTriangles, exampleFile, emptyFile, file-is, empty-is}
 use Rattle.ply.proofs.Promises.{sizes-file}
 
 pub example-file : PlyFile exampleFile exampleWords exampleTriangles

@@ -1,17 +1,14 @@
 -- Laws of files of the kind: the bytes say the lists, the lists the bytes; a file has a header; what its body is; how long it is. Assumes nothing.
 use mathlib.Core.Path.{_≡_, refl, sym, ap, ap₂, _∙_}
 use mathlib.Core.List.{List, _++_}
-use Prim.Native.Nat.{ℕ, _+_, _*_, _≤_, _<_}
+use Prim.Native.Nat.{ℕ, _+_, _<_}
 use native.Mathlib.Omega.{arith}
 use lib.ListN.{length, drop, getD}
 use lib.Seq.{drop-at}
-use Rattle.lines.proofs.Decimals.{dec-short}
-use Rattle.ply.specs.declared.Counts.{Counts}
-use Rattle.ply.specs.Form.{headText, wordsText, facesText, plyText, countOf, sizeOf, PlyFile, OfKind, Headed}
-use Rattle.ply.specs.Parts.{HeaderAt, Body}
+use Rattle.ply_write.specs.Form.{headText, wordsText, facesText, plyText, countOf, PlyFile, OfKind, Headed}
+use Rattle.ply.specs.Inner.Parts.{HeaderAt, Body}
 use Rattle.ply.specs.Answers.{counted, countsOf}
 use Rattle.ply.proofs.Heads.{header-headed}
-use Rattle.ply.proofs.Writing.{head-length, file-size}
 use Rattle.ply.proofs.Reading.{words-are, faces-are, file-full, file-faces, file-found}
 
 -- ---- a file and its lists
@@ -60,18 +57,3 @@ module _ (s : List ℕ) (v f next : ℕ) (h : HeaderAt s v f next) where
   body-kind b p =
       let w = file-found s v f next h (omega (arith, p .full)) b (p .faces) in
       record { words = _; triangles = _; file = w .file }
-
--- ---- how long a file is
-
--- how long it is where there are at most a vertices and b faces
-pub size-most : (v f a b : ℕ) → v ≤ a → f ≤ b → a < 1000000000 → b < 1000000000 → sizeOf v f ≤ 188 + (a * 24 + b * 13)
-size-most v f a b p q h g = omega (arith, head-length v f, dec-short v (omega arith), dec-short f (omega arith))
-
--- no file is longer than 37,000,000,151 bytes, so every length fits a usize
-pub file-longest : (s ws ts : List ℕ) → PlyFile s ws ts → length s ≤ 37000000151
-file-longest s ws ts p =
-    let v = countOf ws in
-    let f = countOf ts in
-    let h = p .fit .vertices in
-    let g = p .fit .faces in
-    omega (arith, ap length (p .is) ∙ file-size ws ts (p .fit), size-most v f 999999999 999999999 (omega arith) (omega arith) (omega arith) (omega arith))

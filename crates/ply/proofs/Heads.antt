@@ -8,11 +8,11 @@ use lib.ListN.{length, drop, length-append, length-drop}
 use lib.Seq.{drop-drop}
 use Rattle.laws.proofs.Lists.{append-apart}
 use Rattle.lines.specs.Lines.{Dec, lineOf, okOf, decLine, Small}
-use Rattle.lines.specs.Readers.{Reads, Absent, starts}
+use Rattle.lines.specs.Inner.Readers.{Reads, Absent, starts}
 use Rattle.lines.proofs.Lines.{line-same}
 use Rattle.lines.proofs.Keys.{starts-is, starts-of}
-use Rattle.ply.specs.Form.{opening, middle, closing, headText, Headed}
-use Rattle.ply.specs.Parts.{HeaderAt}
+use Rattle.ply_write.specs.Form.{opening, middle, closing, headText, Headed}
+use Rattle.ply.specs.Inner.Parts.{HeaderAt}
 
 -- the header, its lines one after the other
 head-lines : (v f : ℕ) (r : List ℕ) → headText v f ++ r ≡ decLine opening v ++ (decLine middle f ++ (closing ++ r))

@@ -1,5 +1,4 @@
--- Laws of PLY files: the header, writing, reading, floats, and what the promises come to.
-pub mod Writing
+-- Laws of reading PLY files: the header, the body, floats, and what the promises come to.
 pub mod Heads
 pub mod Reading
 pub mod Answering

@@ -1,20 +1,19 @@
 -- What the promises come to: read after write and write after read; any two answers are equal; 9, 10 and 0 are given exactly by the definition, and 11 by
 -- the room. Assumes nothing.
-use mathlib.Core.Path.{_≡_, sym, ap, ap₂, _∙_}
+use mathlib.Core.Path.{_≡_, sym, ap, _∙_}
 use mathlib.Core.List.{List}
 use Prim.Native.Nat.{ℕ, _*_, _≤_}
 use native.Mathlib.Omega.{arith}
 use lib.ListN.{length, take}
 use lib.Seq.{sets}
 use Rattle.laws.proofs.Written.{front-take}
-use Rattle.ply.specs.declared.Wrote.{Wrote}
+use Rattle.ply_write.specs.declared.Wrote.{Wrote}
 use Rattle.ply.specs.declared.Counts.{Counts}
-use Rattle.ply.specs.Form.{plyText, countOf, PlyFile, OfKind, Headed}
-use Rattle.ply.specs.Answers.{wrote, refused, countsOf, WriteOf, done, unfit, no-room, Unread, no-header, no-body, SizesOf, known, unread, RoomFor, Unstored, not-read, no-place, ReadOf, stored, unstored}
+use Rattle.ply_write.specs.Form.{countOf, OfKind, Headed}
+use Rattle.ply_write.specs.Answers.{WriteOf}
+use Rattle.ply.specs.Answers.{refused, countsOf, Unread, no-header, no-body, SizesOf, known, unread, RoomFor, Unstored, not-read, no-place, ReadOf, stored, unstored}
 use Rattle.ply.proofs.Files.{kind-words, kind-triangles, kind-counts, kind-headed}
-
-wrote-status : {r q : Wrote} → r ≡ q → r .status ≡ q .status
-wrote-status e = ap (λ (a : Wrote). a .status) e
+use Rattle.ply_write.proofs.Promises.{written-file, WrittenBack, write-file}
 
 read-status : {r q : Counts} → r ≡ q → r .status ≡ q .status
 read-status e = ap (λ (c : Counts). c .status) e
@@ -55,17 +54,6 @@ unstored-some (no-place k z e) o = omega arith
 
 -- ---- ANY TWO CONFORMING ANSWERS ARE EQUAL
 
-pub write-unique : {ws ts l a b : List ℕ} {r q : Wrote} → WriteOf ws ts l a r → WriteOf ws ts l b q → (a ≡ b) × (r ≡ q)
-write-unique (done f h x e) (done g i y d) = (x ∙ sym y, e ∙ sym d)
-write-unique (done f h x e) (unfit z y d) = absurd (z (f .fit))
-write-unique (done f h x e) (no-room g i y d) = absurd (omega (arith, h, i))
-write-unique (unfit z x e) (done g i y d) = absurd (z (g .fit))
-write-unique (unfit z x e) (unfit k y d) = (x ∙ sym y, e ∙ sym d)
-write-unique (unfit z x e) (no-room g i y d) = absurd (z g)
-write-unique (no-room f h x e) (done g i y d) = absurd (omega (arith, h, i))
-write-unique (no-room f h x e) (unfit z y d) = absurd (z f)
-write-unique (no-room f h x e) (no-room g i y d) = (x ∙ sym y, e ∙ sym d)
-
 pub sizes-unique : {s : List ℕ} {r q : Counts} → SizesOf s r → SizesOf s q → r ≡ q
 sizes-unique (known j e) (known k d) = e ∙ kind-counts j k ∙ sym d
 sizes-unique (known j e) (unread m w d) = absurd (unread-kind w j)
@@ -80,14 +68,6 @@ read-unique (unstored n u x y e) (stored k i x′ y′ e′) = absurd (unstored-
 read-unique (unstored n u x y e) (unstored i w x′ y′ e′) = (x ∙ sym x′, y ∙ sym y′, e ∙ ap refused (unstored-same u w) ∙ sym e′)
 
 -- ---- READ AFTER WRITE
-
--- what was written is the file
-pub written-file : {ws ts l l′ : List ℕ} {w : Wrote} → WriteOf ws ts l l′ w → w .status ≡ 0 → PlyFile (take (w .length) l′) ws ts
-written-file {ws} {ts} {l} {l′} {w} (done f h x e) z =
-    let t : take (w .length) l′ ≡ plyText ws ts = front-take (plyText ws ts) l′ l (w .length) x h (ap (λ (a : Wrote). a .length) e) in
-    rw t f
-written-file (unfit k x e) z = absurd (omega (arith, z, wrote-status e))
-written-file (no-room k i x e) z = absurd (omega (arith, z, wrote-status e))
 
 -- the words ws and the indices ts stand at the fronts of the lists
 pub record ReadBack (ws ts l m l′ m′ : List ℕ) (r : Counts) : Type 0 where
@@ -116,16 +96,6 @@ pub read-after-write : {ws ts out out′ : List ℕ} {w : Wrote} → WriteOf ws 
 read-after-write {ws} {ts} p z h g q = read-file (record { words = ws; triangles = ts; file = written-file p z }) (record { words = h; triangles = g }) q
 
 -- ---- WRITE AFTER READ
-
--- the bytes s stand at the front of the list
-pub record WrittenBack (s out out′ : List ℕ) (w : Wrote) : Type 0 where
-  pub bytes : out′ ≡ sets out 0 s
-  pub answer : w ≡ wrote (length s)
-
-pub write-file : {s out out′ : List ℕ} {w : Wrote} (k : OfKind s) → length s ≤ length out → WriteOf (k .words) (k .triangles) out out′ w → WrittenBack s out out′ w
-write-file {out = out} k h (done f i x e) = record { bytes = x ∙ ap (sets out 0) (sym (k .file .is)); answer = e ∙ ap (λ (t : List ℕ). wrote (length t)) (sym (k .file .is)) }
-write-file k h (unfit z x e) = absurd (z (k .file .fit))
-write-file k h (no-room z i x e) = absurd (omega (arith, h, i, ap length (k .file .is)))
 
 -- what was read, written again, is the same bytes
 pub write-after-read : {s l m l′ m′ : List ℕ} {r : Counts} → ReadOf s l m l′ m′ r → r .status ≡ 0

@@ -15,10 +15,10 @@ use Rattle.laws.proofs.Ranges.{lt-or, each-same, each-all, each-one-length, eac
 use Rattle.lines.specs.Lines.{Small}
 use Rattle.little_endian.specs.Bytes.{bytesOf, numberAt, Bytes}
 use Rattle.little_endian.proofs.Bytes.{bytes-length, bytes-there, number-there, number-less}
-use Rattle.ply.specs.Form.{headText, wordsText, faceText, facesText, plyText, countOf, Fit, PlyFile, OfKind}
-use Rattle.ply.specs.Parts.{HeaderAt, wordsIn, faceAt, facesIn, FaceFit, FacesFit, Body, Whole}
+use Rattle.ply_write.specs.Form.{headText, wordsText, faceText, facesText, plyText, countOf, Fit, PlyFile, OfKind}
+use Rattle.ply.specs.Inner.Parts.{HeaderAt, wordsIn, faceAt, facesIn, FaceFit, FacesFit, Whole}
 use Rattle.ply.proofs.Heads.{Three, head-same, head-within}
-use Rattle.ply.proofs.Writing.{face-length, words-length, faces-length}
+use Rattle.ply_write.proofs.Writing.{face-length, words-length, faces-length}
 
 -- ---- turns of the loops
 

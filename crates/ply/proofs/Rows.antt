@@ -10,18 +10,20 @@ use Rattle.laws.specs.Ranges.{each}
 use Rattle.little_endian.specs.Bytes.{bytesOf, valueOf, numberAt}
 use Rattle.lines.specs.Numbers.{digits, dec}
 use Rattle.lines.specs.Lines.{decEnd, decLine, Small}
-use Rattle.lines.specs.Readers as text
+use Rattle.lines.specs.Inner.Readers as text
 use Rattle.lines.specs.declared.Num.the-variants.{Bad}
 use Rattle.lines.proofs.Keys.{no-key, after-key}
 use Rattle.lines.proofs.ReadDecimal.{bad-zero, bad-long, no-digit}
 use Rattle.ply.specs.declared.Counts.{Counts}
-use Rattle.ply.specs.Form.{opening, middle, closing, headText, wordsText, faceText, facesText, plyText, Fit, Fits, PlyFile, OfKind, Headed}
-use Rattle.ply.specs.Parts.{HeaderAt, Body}
-use Rattle.ply.specs.Answers.{unwritten, fileLength, refused, counted, done, unfit, no-room, no-header, no-body, unread, ReadOf}
-use Rattle.ply.specs.Rows.{smallWords, smallFace, small, headWith, Answers, ReadsIn, WritesIn, Readers, Writers}
+use Rattle.ply_write.specs.Form.{opening, middle, closing, headText, wordsText, faceText, facesText, plyText, Fit, PlyFile, OfKind, Headed}
+use Rattle.ply.specs.Inner.Parts.{HeaderAt, Body}
+use Rattle.ply_write.specs.Answers.{unwritten, fileLength, done, unfit, no-room}
+use Rattle.ply.specs.Answers.{refused, counted, no-header, no-body, unread, ReadOf}
+use Rattle.ply.specs.Rows.{smallWords, smallFace, small, headWith, Answers, WritesIn, Readers, Writers}
 use Rattle.ply.proofs.Heads.{no-opening, no-middle, no-closing, header-headed}
 use Rattle.ply.proofs.Files.{kind-body}
-use Rattle.ply.proofs.Promises.{write-unique, sizes-unique, sizes-file, ReadBack, read-file, eleven-exactly, read-keeps}
+use Rattle.ply_write.proofs.Promises.{write-unique}
+use Rattle.ply.proofs.Promises.{sizes-unique, sizes-file, ReadBack, read-file, eleven-exactly, read-keeps}
 
 -- ---- how a row is shown
 

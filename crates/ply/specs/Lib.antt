@@ -1,7 +1,4 @@
--- What the promises of this crate cite: the form of a PLY file, and the answers. Parts has what private functions answer on the way,
--- Example what is printed for a small mesh, Rows a table of answers.
-pub mod Form
+-- What the promises of this crate cite: the readers' answers. Rows is a table of answers of readers and writers, Inner what private functions answer on the way.
 pub mod Answers
-pub mod Parts
-pub mod Example
 pub mod Rows
+pub mod Inner

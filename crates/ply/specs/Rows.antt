@@ -4,10 +4,11 @@ use mathlib.Core.List.{List, [], _∷_, _++_}
 use Prim.Native.Nat.{ℕ}
 use lib.ListN.{length, take, drop, set}
 use lib.Seq.{sets}
-use Rattle.ply.specs.declared.Wrote.{Wrote}
+use Rattle.ply_write.specs.declared.Wrote.{Wrote}
 use Rattle.ply.specs.declared.Counts.{Counts}
-use Rattle.ply.specs.Form.{plyLine, opening, middle, closing, plyText, Fits}
-use Rattle.ply.specs.Answers.{unwritten, wrote, fileLength, refused, counted, WriteOf, SizesOf, ReadOf}
+use Rattle.ply_write.specs.Form.{plyLine, opening, middle, closing, plyText, Fits}
+use Rattle.ply_write.specs.Answers.{unwritten, wrote, fileLength, WriteOf}
+use Rattle.ply.specs.Answers.{refused, counted, SizesOf, ReadOf}
 
 -- the file of one vertex and one face, 209 bytes: a header of 172, then 24 for the vertex, then the face
 abbrev pub smallWords : List ℕ

@@ -6,16 +6,17 @@ use native.Mathlib.Nat.{le-min}
 use native.Mathlib.Omega.{arith}
 use lib.ListN.{length, take, drop, length-take, take-append-drop}
 use lib.Seq.{length-sets, take-append-add}
-use Rattle.laws.specs.Written.{Written, Within}
+use Rattle.laws.specs.Written.{Written}
 use Rattle.laws.proofs.Written.{written-length, written-unique, within}
-use Rattle.lines.specs.Answer.{refusalText}
+use Rattle.lines.specs.Status.{refusalText}
 use Rattle.lines.proofs.Printing.{refusal-length}
 use Rattle.lines.proofs.Decimals.{dec-short}
-use Rattle.ply.specs.declared.Wrote.{Wrote}
+use Rattle.ply_write.specs.declared.Wrote.{Wrote}
 use Rattle.ply.specs.declared.Counts.{Counts}
-use Rattle.ply.specs.Form.{headText, countOf, sizeOf, OfKind, Headed}
-use Rattle.ply.specs.Answers.{WriteOf, SizesOf, ReadOf}
-use Rattle.ply.proofs.Writing.{head-length, file-size}
+use Rattle.ply_write.specs.Form.{headText, countOf, sizeOf, OfKind, Headed}
+use Rattle.ply_write.specs.Answers.{WriteOf}
+use Rattle.ply.specs.Answers.{SizesOf, ReadOf}
+use Rattle.ply_write.proofs.Writing.{head-length, file-size}
 use Rattle.ply.proofs.Files.{kind-headed}
 use Rattle.ply.proofs.Promises.{good-exactly, nine-exactly, some-header, ReadBack, read-file, write-after-read}
 use Rattle.ply_again.specs.Again.{AgainText, same, no-header, no-body, too-long, AgainOf}
@@ -27,19 +28,19 @@ text-short (no-header z) = omega (arith, refusal-length 9)
 text-short (no-body h z k) = omega (arith, refusal-length 10)
 text-short (too-long h k) = omega (arith, refusal-length 11)
 
-both : (s t l l′ : List ℕ) (r : ℕ) → length l ≡ 131072 → AgainText 131072 s t → Written l 0 t l′ r → AgainOf 131072 s l l′ r × Within r l′
-both s t l l′ r h a p = (record { text = t; is = a; put = p }, within r l′ (omega (arith, text-short a, p .next, written-length p)))
+at-front : (s t l l′ : List ℕ) (r : ℕ) → length l ≡ 131072 → AgainText 131072 s t → Written l 0 t l′ r → AgainOf 131072 s l l′ r
+at-front s t l l′ r h a p = record { text = t; is = a; put = p; within = within r l′ (omega (arith, text-short a, p .next, written-length p)) }
 
 module _ (s : List ℕ) (c : Counts) (q : SizesOf s c) where
-  pub again-nine : c .status ≡ 9 → (l l′ : List ℕ) (r : ℕ) → length l ≡ 131072 → Written l 0 (refusalText 9) l′ r → AgainOf 131072 s l l′ r × Within r l′
-  again-nine z l l′ r room p = both s _ l l′ r room (no-header (nine-exactly q .0 z)) p
+  pub again-nine : c .status ≡ 9 → (l l′ : List ℕ) (r : ℕ) → length l ≡ 131072 → Written l 0 (refusalText 9) l′ r → AgainOf 131072 s l l′ r
+  again-nine z l l′ r room p = at-front s _ l l′ r room (no-header (nine-exactly q .0 z)) p
 
   module _ (n : c .status ≡ 9 → ⊥) where
-    pub again-long : 131072 < length s → (l l′ : List ℕ) (r : ℕ) → length l ≡ 131072 → Written l 0 (refusalText 11) l′ r → AgainOf 131072 s l l′ r × Within r l′
-    again-long h l l′ r room p = both s _ l l′ r room (too-long (some-header q n) h) p
+    pub again-long : 131072 < length s → (l l′ : List ℕ) (r : ℕ) → length l ≡ 131072 → Written l 0 (refusalText 11) l′ r → AgainOf 131072 s l l′ r
+    again-long h l l′ r room p = at-front s _ l l′ r room (too-long (some-header q n) h) p
 
-    pub again-ten : length s ≤ 131072 → (c .status ≡ 0 → ⊥) → (l l′ : List ℕ) (r : ℕ) → length l ≡ 131072 → Written l 0 (refusalText 10) l′ r → AgainOf 131072 s l l′ r × Within r l′
-    again-ten h z l l′ r room p = both s _ l l′ r room (no-body (some-header q n) (λ k. z (good-exactly q .1 k)) h) p
+    pub again-ten : length s ≤ 131072 → (c .status ≡ 0 → ⊥) → (l l′ : List ℕ) (r : ℕ) → length l ≡ 131072 → Written l 0 (refusalText 10) l′ r → AgainOf 131072 s l l′ r
+    again-ten h z l l′ r room p = at-front s _ l l′ r room (no-body (some-header q n) (λ k. z (good-exactly q .1 k)) h) p
 
   -- a file of the kind that is not too long has room in the two lists
   module _ (z : c .status ≡ 0) (h : length s ≤ 131072) (us rs us′ rs′ : List ℕ) (hu : length us ≡ 16384) (hr : length rs ≡ 32768) (d : Counts) (p : ReadOf s us rs us′ rs′ d) where
@@ -61,10 +62,10 @@ module _ (s : List ℕ) (c : Counts) (q : SizesOf s c) where
     pub triangles-there : d .faces * 3 ≤ length rs′
     triangles-there = omega (arith, counts-small .1, ap length (back .triangles) ∙ length-sets rs 0 (kind .triangles))
 
-    pub again-done : (l l′ : List ℕ) (w : Wrote) → length l ≡ 131072 → WriteOf (take (d .vertices * 3) us′) (take (d .faces * 3) rs′) l l′ w → AgainOf 131072 s l l′ (w .length) × Within (w .length) l′
+    pub again-done : (l l′ : List ℕ) (w : Wrote) → length l ≡ 131072 → WriteOf (take (d .vertices * 3) us′) (take (d .faces * 3) rs′) l l′ w → AgainOf 131072 s l l′ (w .length)
     again-done l l′ w room o =
         let t = write-after-read p (back .status) (omega arith) o in
-        both s s l l′ (w .length) room (same kind h) (record { buf = t .bytes; next = omega (arith, ap (λ (x : Wrote). x .length) (t .answer)) })
+        at-front s s l l′ (w .length) room (same kind h) (record { buf = t .bytes; next = omega (arith, ap (λ (x : Wrote). x .length) (t .answer)) })
 
 -- ---- ANY TWO CONFORMING ANSWERS ARE EQUAL
 

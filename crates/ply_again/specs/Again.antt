@@ -2,9 +2,9 @@
 use mathlib.Core.List.{List}
 use Prim.Native.Nat.{ℕ, _≤_, _<_}
 use lib.ListN.{length}
-use Rattle.laws.specs.Written.{Written}
-use Rattle.lines.specs.Answer.{refusalText}
-use Rattle.ply.specs.Form.{OfKind, Headed}
+use Rattle.laws.specs.Written.{Written, Within}
+use Rattle.lines.specs.Status.{refusalText}
+use Rattle.ply_write.specs.Form.{OfKind, Headed}
 
 pub data AgainText (b : ℕ) (s : List ℕ) : List ℕ → Type 0 where
   same : OfKind s → length s ≤ b → AgainText b s s
@@ -12,8 +12,9 @@ pub data AgainText (b : ℕ) (s : List ℕ) : List ℕ → Type 0 where
   no-body : Headed s → (OfKind s → ⊥) → length s ≤ b → AgainText b s (refusalText 10)
   too-long : Headed s → b < length s → AgainText b s (refusalText 11)
 
--- that stands at the front of l′, which was l, and takes r bytes
+-- that stands at the front of l′, which was l, takes r bytes, and fits
 pub record AgainOf (b : ℕ) (s l l′ : List ℕ) (r : ℕ) : Type 0 where
   pub text : List ℕ
   pub is : AgainText b s text
   pub put : Written l 0 text l′ r
+  pub within : Within r l′

@@ -8,15 +8,14 @@ use lib.Ieee.{binary64, toBits}
 use lib.ListN.{length, length-map}
 use Rattle.laws.specs.Written.{Written}
 use Rattle.laws.proofs.Triangles.{flat-length}
-use Rattle.lines.specs.Answer.{refusalText}
+use Rattle.lines.specs.Status.{refusalText}
 use Rattle.stages.specs.Meshes.{meshOf}
 use Rattle.build.specs.Answer.{Order, status, orderBox, orderVertices, orderPositions, orderTriangles}
 use Rattle.build.proofs.Fronts.{vertices-most, triangles-most, positions-three, corners-below}
-use Rattle.ply.specs.declared.Wrote.{Wrote}
-use Rattle.ply.specs.Form.{plyText, countOf, sizeOf, Fit, Fits}
-use Rattle.ply.specs.Answers.{bitsOf, WriteOf, done, unfit, no-room}
-use Rattle.ply.proofs.Writing.{file-size}
-use Rattle.ply.proofs.Files.{size-most}
+use Rattle.ply_write.specs.declared.Wrote.{Wrote}
+use Rattle.ply_write.specs.Form.{plyText, countOf, sizeOf, Fit, Fits}
+use Rattle.ply_write.specs.Answers.{bitsOf, WriteOf, done, unfit, no-room}
+use Rattle.ply_write.proofs.Writing.{file-size, size-most}
 use Rattle.ply_file.specs.Text.{plyOf}
 
 module _ (o : Order) where

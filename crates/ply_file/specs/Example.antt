@@ -1,4 +1,4 @@
--- The mesh of document 01's example, 8 vertices and 12 triangles, and its PLY file, as the oracle has them (tools/oracle). Assumes nothing.
+-- The mesh of the example (docs/SCOPE.md, S10.6), 8 vertices and 12 triangles, and its PLY file, as the oracle has them (tools/oracle). Assumes nothing.
 use mathlib.Core.List.{List, [], _∷_}
 use Prim.Native.Nat.{ℕ}
 

@@ -4,11 +4,11 @@ use mathlib.Core.Bool.{cond}
 use mathlib.Core.List.{List}
 use Prim.Native.Nat.{ℕ}
 use lib.Dec.{eqb}
-use Rattle.lines.specs.Answer.{refusalText}
+use Rattle.lines.specs.Status.{refusalText}
 use Rattle.build.specs.Answer.{Order, status, orderPositions, orderTriangles}
-use Rattle.count.specs.Told.{Told, ToldAt}
-use Rattle.ply.specs.Form.{plyText}
-use Rattle.ply.specs.Answers.{bitsOf}
+use Rattle.file_build.specs.Told.{Told, ToldAt}
+use Rattle.ply_write.specs.Form.{plyText}
+use Rattle.ply_write.specs.Answers.{bitsOf}
 
 -- for an order: all vertices ever made, and the triangles
 unfoldable pub plyOf : Order → List ℕ

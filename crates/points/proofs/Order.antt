@@ -11,65 +11,40 @@ use lib.Ieee.Fits.{down-pos}
 use borrow.Author.Tests.{lt-ltb, le-ltb, eqb-true}
 use Rattle.samples.specs.Sides.{finite, inside}
 
--- two fractions x / e and y / d that are equal compare alike with k / g
-same-lt : (x y k e d g : ℕ) → 0 < e → 0 < d → x * d ≡ y * e → ltb (x * g) (k * e) ≡ ltb (y * g) (k * d)
-same-lt x y k e d g E D h = elim (lt-or (x * g) (k * e)) [
-  | inr t ↦ le-ltb (x * g) (k * e) t ∙ sym (le-ltb (y * g) (k * d) (not-lt t))
-  | inl t ↦ lt-ltb (x * g) (k * e) t ∙ sym (lt-ltb (y * g) (k * d) (over x y e d E D h t))
+-- two numbers a and b compare as two others in the same proportion
+same-order : (a b a′ b′ e d : ℕ) → 0 < e → 0 < d → a * d ≡ a′ * e → b * d ≡ b′ * e → ltb a b ≡ ltb a′ b′
+same-order a b a′ b′ e d E D p q = elim (lt-or a b) [
+  | inr t ↦ le-ltb a b t ∙ sym (le-ltb a′ b′ (not-lt t))
+  | inl t ↦ lt-ltb a b t ∙ sym (lt-ltb a′ b′ (over a b a′ b′ e d D p q t))
 ]
   where
-    over : (x y e d : ℕ) → 0 < e → 0 < d → x * d ≡ y * e → x * g < k * e → y * g < k * d
-    over x y e d E D h t =
-        let a : x * g * d < k * e * d = mul-lt-mul-of-pos-right t D in
-        let b : x * g * d ≡ y * g * e = mul-right-comm x g d ∙ ap (λ z. z * g) h ∙ mul-right-comm y e g in
-        let c : k * e * d ≡ k * d * e = mul-right-comm k e d in
-        lt-of-mul-lt-mul-right e (rw (← b, ← c) a)
+    over : (a b a′ b′ e d : ℕ) → 0 < d → a * d ≡ a′ * e → b * d ≡ b′ * e → a < b → a′ < b′
+    over a b a′ b′ e d D p q t = let l : a * d < b * d = mul-lt-mul-of-pos-right t D in lt-of-mul-lt-mul-right e (rw (← p, ← q) l)
 
-    not-lt : k * e ≤ x * g → k * d ≤ y * g
-    not-lt t = elim (lt-or (y * g) (k * d)) [
+    not-lt : b ≤ a → b′ ≤ a′
+    not-lt t = elim (lt-or a′ b′) [
       | inr r ↦ r
-      | inl r ↦ absurd (lt-irrefl (x * g) (lt-of-lt-of-le (over y x d e D E (sym h) r) t))
+      | inl r ↦ absurd (lt-irrefl a (lt-of-lt-of-le (over a′ b′ a b d e E (sym p) (sym q) r) t))
     ]
 
-same-gt : (x y k e d g : ℕ) → 0 < e → 0 < d → x * d ≡ y * e → ltb (k * e) (x * g) ≡ ltb (k * d) (y * g)
-same-gt x y k e d g E D h = elim (lt-or (k * e) (x * g)) [
-  | inr t ↦ le-ltb (k * e) (x * g) t ∙ sym (le-ltb (k * d) (y * g) (not-gt t))
-  | inl t ↦ lt-ltb (k * e) (x * g) t ∙ sym (lt-ltb (k * d) (y * g) (over x y e d E D h t))
-]
-  where
-    over : (x y e d : ℕ) → 0 < e → 0 < d → x * d ≡ y * e → k * e < x * g → k * d < y * g
-    over x y e d E D h t =
-        let a : k * e * d < x * g * d = mul-lt-mul-of-pos-right t D in
-        let b : x * g * d ≡ y * g * e = mul-right-comm x g d ∙ ap (λ z. z * g) h ∙ mul-right-comm y e g in
-        let c : k * e * d ≡ k * d * e = mul-right-comm k e d in
-        lt-of-mul-lt-mul-right e (rw (← b, ← c) a)
-
-    not-gt : x * g ≤ k * e → y * g ≤ k * d
-    not-gt t = elim (lt-or (k * d) (y * g)) [
-      | inr r ↦ r
-      | inl r ↦ absurd (lt-irrefl (k * e) (lt-of-lt-of-le (over y x d e D E (sym h) r) t))
-    ]
+-- two fractions x / e and y / d that are equal stay so over g
+same-ratio : (x y e d g : ℕ) → x * d ≡ y * e → x * g * d ≡ y * g * e
+same-ratio x y e d g h = mul-right-comm x g d ∙ ap (λ z. z * g) h ∙ mul-right-comm y e g
 
 zero-of : (x d : ℕ) → 0 < d → x * d ≡ 0 → x ≡ 0
 zero-of x d D h = elim (eq-zero-or-pos x) [ inl q ↦ q | inr q ↦ absurd (lt-irrefl 0 (subst (λ (y : ℕ). 0 < y) h (mul-pos q D))) ]
 
 same-pos : (X Y e d : ℕ) → 0 < e → 0 < d → X * d ≡ Y * e → ltb 0 X ≡ ltb 0 Y
-same-pos X Y e d E D h = elim (eq-zero-or-pos X) [
-  | inl z ↦ let y : Y ≡ 0 = zero-of Y e E (sym h ∙ rw z (zero-mul d)) in rw (z, y)
-  | inr p ↦ elim (eq-zero-or-pos Y) [
-    | inl z ↦ let x : X ≡ 0 = zero-of X d D (h ∙ rw z (zero-mul e)) in rw (x, z)
-    | inr q ↦ lt-ltb 0 X p ∙ sym (lt-ltb 0 Y q)
-  ]
-]
+same-pos X Y e d E D h = same-order 0 X 0 Y e d E D (zero-mul d ∙ sym (zero-mul e)) h
 
 -- equal values compare alike
 below-same : (s t u : Bool) (x y k e d g : ℕ) → 0 < e → 0 < d → x * d ≡ y * e → (Bool·beq s t ≡ false → x * d ≡ 0) → below s (x * g) u (k * e) ≡ below t (y * g) u (k * d)
-below-same false false false x y k e d g E D h z = same-lt x y k e d g E D h
+below-same false false false x y k e d g E D h z = same-order (x * g) (k * e) (y * g) (k * d) e d E D (same-ratio x y e d g h) (mul-right-comm k e d)
 below-same false false true x y k e d g E D h z = refl
 below-same true true false x y k e d g E D h z =
     same-pos (x * g + k * e) (y * g + k * d) e d E D
-    (add-mul (x * g) (k * e) d ∙ rw (mul-right-comm x g d, h, mul-right-comm y e g, mul-right-comm k e d) (sym (add-mul (y * g) (k * d) e)))
-below-same true true true x y k e d g E D h z = same-gt x y k e d g E D h
+    (add-mul (x * g) (k * e) d ∙ rw (same-ratio x y e d g h, mul-right-comm k e d) (sym (add-mul (y * g) (k * d) e)))
+below-same true true true x y k e d g E D h z = same-order (k * e) (x * g) (k * d) (y * g) e d E D (mul-right-comm k e d) (same-ratio x y e d g h)
 below-same false true false x y k e d g E D h z =
     let x0 : x ≡ 0 = zero-of x d D (z refl) in
     let y0 : y ≡ 0 = zero-of y e E (sym h ∙ z refl) in

@@ -17,7 +17,7 @@ use Rattle.points.specs.Limits.{frameOk}
 use Rattle.refusals.specs.declared.Lengths.{Lengths}
 use Rattle.refusals.specs.Refusals.{settingsOk, siteRoom, vertexRoom, cellRoom, most, statusOf}
 use Rattle.refusals.specs.Inner.Granted.{Granted}
-use Rattle.refusals.proofs.Status.{Sized, Stored, not-refused}
+use Rattle.refusals.proofs.Status.{not-refused}
 
 -- two bounds tested together
 both-le : (a b c d : ℕ) → leb a b && leb c d ≡ true → (a ≤ b) × (c ≤ d)

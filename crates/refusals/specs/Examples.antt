@@ -1,4 +1,4 @@
--- Examples of replies, which antt computes: document 01's box, with lists just long enough and one too short, and each refusal. Assumes nothing.
+-- Examples of replies, which antt computes: the example's box (docs/SCOPE.md, S10.6), with lists just long enough and one too short, and each refusal. Assumes nothing.
 use mathlib.Core.Path.{_≡_, refl}
 use mathlib.Core.List.{List, [], _∷_, _++_}
 use Prim.Native.Nat.{ℕ}

@@ -1,4 +1,4 @@
--- When a build is refused and with which number: the table of document 01 ("What a build answers"), a line for each number. Assumes nothing.
+-- When a build is refused and with which number: the table of docs/SCOPE.md, S9.2, a line for each number. Assumes nothing.
 use mathlib.Core.Bool.{Bool, not, cond, _&&_}
 use mathlib.Core.List.{List}
 use Prim.Native.Nat.{ℕ, _*_, _/_}

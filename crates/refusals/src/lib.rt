@@ -7,6 +7,11 @@ ghost use Prim.Native.Nat.{_*_, _/_, _≤_};
 ghost use Rattle.lattice.specs.Sites.{SidesFit, cells};
 ghost use Rattle.refusals.specs.Refusals.{settingsOk, siteRoom, vertexRoom, cellRoom, requestOf};
 
+// Words a cell: of the triangle list, room for twelve triangles, and of the edge list.
+pub const TRIANGLE_WORDS: usize = 36;
+
+pub const EDGE_WORDS: usize = 108;
+
 // How long the six lent lists are.
 pub struct Lengths {
     pub masks: usize,
@@ -35,7 +40,7 @@ fn site_room(sites: usize, lent: Lengths) -> bool
     ensures { λ r. ⌜ r ≡ siteRoom sites lent ⌝ }
 {
     if sites <= lent.masks {
-        7 * sites <= lent.table
+        tables::OWNED_EDGES * sites <= lent.table
     } else {
         false
     }
@@ -60,8 +65,8 @@ fn cell_room(n: Sides, lent: Lengths) -> bool
     ensures { λ r. ⌜ r ≡ cellRoom (cells n) lent ⌝ }
 {
     let cells = lattice::cell_count(n);
-    if 36 * cells <= lent.triangles {
-        108 * cells <= lent.edges
+    if TRIANGLE_WORDS * cells <= lent.triangles {
+        EDGE_WORDS * cells <= lent.edges
     } else {
         false
     }

@@ -6,7 +6,7 @@ ghost use mathlib.Core.Path.{_≡_};
 ghost use lib.ListN.{length};
 
 fn answer(input: &[u8]) {
-    let mut out = [0u8; 402];
+    let mut out = [0u8; count::ROOM];
     let k = count::count_text(input, &mut out);
     io::write_all(STDOUT_FILENO, &out[..k]);
     io::write_all(STDOUT_FILENO, b"end\n");

@@ -24,7 +24,7 @@ use Rattle.stages.specs.Vertices.{Vertex, apart, fresh, held, keys, nobody}
 use Rattle.stages.specs.Meshes.{bookOf, numbers, positionsOf, tableOf}
 use Rattle.stages.specs.Rounds.{retired}
 use Rattle.stages.specs.Samples.{boxOf, edgesOf, pointBy, positionAt}
-use Rattle.stages.specs.Inner.Steps.{number, paint}
+use Rattle.stages.specs.Inner.Steps.{number, paint, paintFrom}
 use Rattle.stages.specs.Inner.Clustered.{Proper}
 use Rattle.stages.proofs.Lookup.{times}
 use Rattle.stages.proofs.Table.{table-roll}
@@ -32,7 +32,7 @@ use Rattle.stages.proofs.Renumber.{held-entries}
 use Rattle.stages.proofs.SampleClusters.{markAt}
 use Rattle.stages.proofs.SampleMarks.{sample-clustered}
 use Rattle.stages.proofs.Book.{book-append, book-length, book-retire, positions-append, positions-retire}
-use Rattle.site_vertices.specs.Inner.Appending.{paintFrom, pointedOf, singlesOf}
+use Rattle.site_vertices.specs.Inner.Appending.{pointedOf, singlesOf}
 use Rattle.site_vertices.proofs.Appending.{positions-three, singles-are}
 use Rattle.rollback.specs.Inner.Rolling.{Holding}
 use Rattle.rollback.specs.Inner.Turning.{Replaced, heldAt, heldMask}

@@ -71,7 +71,7 @@ pub fn value_across(samples: &[f64], n: Sides, s: usize, e: usize) -> Sample
 {
     if lattice::sides_ok(n) {
         if s < lattice::site_count(n) {
-            if e < 14 {
+            if e < tables::EDGES {
                 let end = lattice::across(n, s, e);
                 return entry_by(samples, end);
             }

@@ -1,7 +1,7 @@
 // Samples: which side of the surface a value is on, whether it is finite, and where the surface crosses an edge.
 // The threshold h is a parameter of every function that asks for a side.
 ghost use mathlib.Core.Path.{_≡_};
-ghost use Rattle.samples.specs.Sides.{base, inside, finite, markFraction, pointFraction, crossing, isNear, whenFinite};
+ghost use Rattle.samples.specs.Sides.{inside, finite, markFraction, pointFraction, crossing, isNear, whenFinite};
 
 // Inside means below -INSIDE where nobody chose another threshold.
 pub const INSIDE: f64 = 1.0e-9;
@@ -16,12 +16,6 @@ pub enum Sample {
 pub enum Crossing {
     SameSide,
     At(f64),
-}
-
-pub fn threshold() -> f64
-    ensures { λ r. ⌜ r ≡ base ⌝ }
-{
-    INSIDE
 }
 
 // A NaN is outside.

@@ -22,16 +22,16 @@ use Rattle.points.specs.declared.Sum.{Sum}
 use Rattle.points.specs.declared.EdgePoint.{EdgePoint}
 use Rattle.points.specs.declared.EdgePoint.the-variants as on
 use Rattle.points.specs.Means.{none, meanOf, meanSum, more}
-use Rattle.stages.specs.Boxes.{Box, owned}
-use Rattle.stages.specs.Vertices.{Vertex, fresh, held, keys}
+use Rattle.stages.specs.Boxes.{owned}
+use Rattle.stages.specs.Vertices.{Vertex, fresh, held}
 use Rattle.stages.specs.Meshes.{bookOf, numbers, positionsOf}
 use Rattle.stages.specs.Samples.{edgesOf, placeOf, pointBy, pointsOf, positionAt}
-use Rattle.stages.specs.Inner.Steps.{number, paint, paintAll}
+use Rattle.stages.specs.Inner.Steps.{number, paint, paintFrom}
 use Rattle.stages.proofs.Book.{book-append, book-length, positions-append, positions-length}
 use Rattle.site_vertices.specs.Inner.Drawing.{join, claim, joinEdge, claimEdge}
 use Rattle.site_vertices.proofs.Points.{isAt, point-at}
 use Rattle.site_vertices.proofs.Drawing.{rest-set, rest-half}
-use Rattle.site_vertices.specs.Inner.Appending.{Appended, Space, paintFrom, pointedOf, single, singlesOf}
+use Rattle.site_vertices.specs.Inner.Appending.{Appended, Space, pointedOf, single, singlesOf}
 
 -- ---- lists of vertices
 
@@ -42,12 +42,6 @@ paint-append n i (x ∷ ws) vs t =
     let e : suc i + length ws ≡ i + suc (length ws) = omega arith in
     paint-append n (suc i) ws vs (paint i (map (owned n (x .site)) (held x)) t)
     ∙ ap (λ (j : ℕ). paintFrom n j vs (paintFrom n (suc i) ws (paint i (map (owned n (x .site)) (held x)) t))) e
-
--- THE TABLE OF A VERTEX PASS OF ANY BOX WITH THESE SIDES
-pub paint-from : (b : Box) (i : ℕ) (vs : List Vertex) (t : List ℕ) → paintAll b i vs t ≡ paintFrom (b .sides) i vs t
-unfolding paintAll paintFrom keys
-paint-from b i [] t = refl
-paint-from b i (x ∷ vs) t = paint-from b (suc i) vs (paint i (map (owned (b .sides) (x .site)) (held x)) t)
 
 -- vertices of one edge each are numbered one after the other
 pub paint-singles : (n : Sides) (i r s : ℕ) (es t : List ℕ) → paintFrom n i (map (λ e. fresh r s (e ∷ [])) es) t ≡ number i (map (owned n s) es) t

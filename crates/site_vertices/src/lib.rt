@@ -16,7 +16,7 @@ ghost use Rattle.lattice.specs.Across.{acrossOf};
 ghost use Rattle.marks.specs.Inner.Loops.{Sampled};
 ghost use Rattle.stages.specs.Boxes.{reach, owned};
 ghost use Rattle.stages.specs.Samples.{endBy, endsOf, placeOf};
-ghost use Rattle.site_vertices.specs.Inner.Drawing.{joinEdge, claimEdge, joinTo, claimTo, Drawable};
+ghost use Rattle.site_vertices.specs.Inner.Drawing.{joinEdge, claimEdge, Drawable, ClusterDrawn, VertexPut};
 ghost use Rattle.site_vertices.specs.Inner.Appending.{Appended, Space, single, singlesOf};
 
 // The finite sample at the other end of an edge.
@@ -67,13 +67,13 @@ pub fn edge_place(n: Sides, s: usize, e: usize) -> usize
     requires { ⌜ SidesFit n × (s < sites n) × (e < 14) ⌝ }
     ensures { λ r. ⌜ r ≡ owned n s e ⌝ }
 {
-    if e < 7 {
-        return 7 * s + e;
+    if e < tables::OWNED_EDGES {
+        return tables::OWNED_EDGES * s + e;
     }
-    let label = e - 7;
+    let label = e - tables::OWNED_EDGES;
     let far = reach_of(n, label);
     if far <= s {
-        return 7 * (s - far) + label;
+        return tables::OWNED_EDGES * (s - far) + label;
     }
     label
 }
@@ -136,12 +136,11 @@ pub fn draw_cluster(
     id: u32,
 ) -> Sum
     requires { ⌜ Drawable n (now samples) (now table) s ⌝ }
-    ensures { λ r. ⌜ r ≡ joinTo frame n (now (samples .entry)) s mask 14 ⌝ }
-    ensures { λ _. ⌜ now (table .exit) ≡ claimTo frame n (now (samples .entry)) s mask id 14 (now (table .entry)) ⌝ }
+    ensures { λ r. ⌜ ClusterDrawn frame n (now (samples .entry)) s mask id (now (table .entry)) (now (table .exit)) r ⌝ }
 {
     let mut sum = points::no_points();
     let mut rest = mask;
-    for e in 0..14 {
+    for e in 0..tables::EDGES {
         sum = draw_edge(frame, n, samples, table, s, e, rest % 2 == 1, id, sum);
         rest = rest / 2;
     }
@@ -178,8 +177,7 @@ pub fn put_vertex(
     round: u32,
 )
     requires { ⌜ Space (now positions) (now book) (i + 1) × (s < 4294967296) ⌝ }
-    ensures { λ _. ⌜ now (positions .exit) ≡ sets (now (positions .entry)) (3 * i) (p .x ∷ p .y ∷ p .z ∷ []) ⌝ }
-    ensures { λ _. ⌜ now (book .exit) ≡ sets (now (book .entry)) (4 * i) (s ∷ held ∷ held ∷ round ∷ []) ⌝ }
+    ensures { λ _. ⌜ VertexPut i p s held round (now (positions .entry)) (now (positions .exit)) (now (book .entry)) (now (book .exit)) ⌝ }
 {
     put_point(positions, 3 * i, p);
     put_row(book, 4 * i, s as u32, held, round);
@@ -232,7 +230,7 @@ pub fn draw_singles(
 {
     let mut at = next;
     let mut rest = mask;
-    for e in 0..14 {
+    for e in 0..tables::EDGES {
         at = draw_single(
             frame,
             n,

@@ -11,9 +11,8 @@ use lib.ListN.{length, getD}
 use Rattle.stages.specs.Boxes.{Box, owned}
 use Rattle.stages.specs.Vertices.{Vertex, apart, fresh, held, keys, nobody}
 use Rattle.stages.specs.Meshes.{find, holds}
-use Rattle.stages.specs.Splits.{place}
+use Rattle.stages.specs.Splits.{endOf, place}
 use Rattle.stages.specs.Rounds.{owners, retired, rollback}
-use Rattle.stages.specs.Stages.{Finer}
 use Rattle.stages.proofs.Weights.{place-le, roll-le}
 use Rattle.stages.proofs.Stages.{keysOf, owners-once, place-keys, roll-keys}
 use Rattle.stages.proofs.Lookup.{find-none, find-only, find-some, times}
@@ -21,6 +20,7 @@ use Rattle.laws.specs.Bools.{bit}
 use Rattle.laws.specs.Lists.{count, total}
 use Rattle.laws.specs.Couples.{Pair, left}
 use Rattle.march.specs.March.{none}
+use Rattle.march.specs.Finer.{Finer}
 use Rattle.topology.specs.Parts.{low}
 use Rattle.laws.proofs.Lists.{total-at}
 
@@ -99,7 +99,7 @@ module _ (b : Box) (j k : ℕ) where
     retired-both x = refl
 
     pub place-both : (ps : List Pair) (n : ℕ) (vs : List Vertex) → total both (place ps n vs) ≤ total both vs
-    place-both ps n vs = place-le both ps (λ x h. omega (arith, apart-both 0 x)) n vs
+    place-both ps n vs = place-le both (endOf ps) (λ x h. omega (arith, apart-both 0 x)) n vs
 
     pub roll-both : (r : ℕ) (os : List ℕ) → ((s : ℕ) → count (eqb s) os ≤ 1) → (vs : List Vertex) → total both (rollback r os vs) ≤ total both vs
     roll-both r os once vs = roll-le both r os once (λ x h. omega (arith, apart-both r x, retired-both x)) vs
@@ -147,5 +147,5 @@ module _ (b : Box) (vs ws : List Vertex) (st : Step b vs ws) (once : (k : ℕ) �
       go false d = finer-ne j k (eqb-false j k d) e
 
   -- THE LOOKUP IS ONLY REFINED
-  pub step-finer : Finer (find b 0 ws) (find b 0 vs)
-  step-finer = record { same = finer-same; gone = finer-gone }
+  pub step-finer : (m : ℕ) → Finer m (find b 0 ws) (find b 0 vs)
+  step-finer m = record { same = λ j k hj hk e. finer-same j k e; gone = λ k h e. finer-gone k e }

@@ -9,8 +9,8 @@ use lib.Dec.{T, eqb, ltb, eqb→eq}
 use borrow.Author.Tests.{ltb-true, lt-ltb, eqb-true, eq-eqb}
 use lib.ListN.{length, getD}
 use Rattle.stages.specs.Vertices.{Vertex}
-use Rattle.stages.specs.Splits.{endOf, over, overs, some}
-use Rattle.stages.specs.Rounds.{bad, bads, clusterOf, owns}
+use Rattle.stages.specs.Splits.{endOf, isCrowded, crowdedSides, some}
+use Rattle.stages.specs.Rounds.{onCrowded, crowdedTris, clusterOf, owns}
 use Rattle.laws.specs.Bools.{allBools, bit}
 use Rattle.laws.specs.Ranges.{any}
 use Rattle.laws.specs.Lists.{All, count, keep}
@@ -124,9 +124,9 @@ sides-apart [] h = tt
 sides-apart (t ∷ ts) h = let s = proper-apart t (h .0) in (s .first, (s .second, (s .third, sides-apart ts (h .1))))
 
 module _ (ts : List Tri) (P : All (λ t. proper t ≡ true) ts) where
-  over-pair : (x y : ℕ) → x ≢ y → over ts (x, y) ≡ ltb 2 (pairCount x y (flat ts))
-  unfolding over
-  over-pair x y n = ap (ltb 2) (touch-sides x y n ts P)
+  crowded-pair : (x y : ℕ) → x ≢ y → isCrowded ts (x, y) ≡ ltb 2 (pairCount x y (flat ts))
+  unfolding isCrowded
+  crowded-pair x y n = ap (ltb 2) (touch-sides x y n ts P)
 
   sides-long : length (sidesOf ts) ≡ length (flat ts)
   sides-long = ap length (sym (flat-directed ts)) ∙ directed-length (flat ts) ∙ omega (arith, flat-length ts)
@@ -134,56 +134,56 @@ module _ (ts : List Tri) (P : All (λ t. proper t ≡ true) ts) where
   side-at : (k : ℕ) → k < length (flat ts) → getD (sidesOf ts) k (0, 0) ≡ (getD (flat ts) k 0, getD (flat ts) (next k) 0)
   side-at k h = ap (λ (l : List Pair). getD l k (0, 0)) (sym (flat-directed ts)) ∙ directed-at (flat ts) k (omega (arith, flat-length ts))
 
-  -- a side's pair is over for the triangles as it is for the sides
-  pub over-side : (k : ℕ) → k < length (flat ts) → over ts (getD (flat ts) k 0, getD (flat ts) (next k) 0) ≡ pairs.over (flat ts) k
-  unfolding pairs.over
-  over-side k h =
+  -- a side's pair is crowded for the triangles as it is for the sides
+  pub side-crowded : (k : ℕ) → k < length (flat ts) → isCrowded ts (getD (flat ts) k 0, getD (flat ts) (next k) 0) ≡ pairs.crowded (flat ts) k
+  unfolding pairs.crowded
+  side-crowded k h =
       let d : getD (sidesOf ts) k (0, 0) .0 ≢ getD (sidesOf ts) k (0, 0) .1 =
       all-member (0, 0) (λ p. p .0 ≢ p .1) (sidesOf ts) (sides-apart ts P) k (omega (arith, sides-long)) in
-      over-pair (getD (flat ts) k 0) (getD (flat ts) (next k) 0) (rw (side-at k h) at d)
+      crowded-pair (getD (flat ts) k 0) (getD (flat ts) (next k) 0) (rw (side-at k h) at d)
 
-  -- WHAT SPLITS: vertex n is an end of a side that is over
+  -- WHAT SPLITS: vertex n is an end of a side that is crowded
   pub ends-are : (n : ℕ)
-      → endOf (overs ts) n ≡ any (length (flat ts)) (λ k. pairs.over (flat ts) k && (eqb n (getD (flat ts) k 0) || eqb n (getD (flat ts) (next k) 0)))
-  unfolding endOf overs
+      → endOf (crowdedSides ts) n ≡ any (length (flat ts)) (λ k. pairs.crowded (flat ts) k && (eqb n (getD (flat ts) k 0) || eqb n (getD (flat ts) (next k) 0)))
+  unfolding endOf crowdedSides
   ends-are n =
       let f : Pair → Bool = λ p. eqb n (p .0) || eqb n (p .1) in
-      some-keep f (over ts) (sidesOf ts)
-      ∙ some-any (0, 0) (λ p. over ts p && f p) (sidesOf ts)
-      ∙ ap (λ (m : ℕ). any m (λ k. over ts (getD (sidesOf ts) k (0, 0)) && f (getD (sidesOf ts) k (0, 0)))) sides-long
-      ∙ any-same (length (flat ts)) (λ k. over ts (getD (sidesOf ts) k (0, 0)) && f (getD (sidesOf ts) k (0, 0)))
-      (λ k. pairs.over (flat ts) k && (eqb n (getD (flat ts) k 0) || eqb n (getD (flat ts) (next k) 0)))
-      (λ k h. ap (λ (p : Pair). over ts p && f p) (side-at k h) ∙ ap (λ (c : Bool). c && f (getD (flat ts) k 0, getD (flat ts) (next k) 0)) (over-side k h))
+      some-keep f (isCrowded ts) (sidesOf ts)
+      ∙ some-any (0, 0) (λ p. isCrowded ts p && f p) (sidesOf ts)
+      ∙ ap (λ (m : ℕ). any m (λ k. isCrowded ts (getD (sidesOf ts) k (0, 0)) && f (getD (sidesOf ts) k (0, 0)))) sides-long
+      ∙ any-same (length (flat ts)) (λ k. isCrowded ts (getD (sidesOf ts) k (0, 0)) && f (getD (sidesOf ts) k (0, 0)))
+      (λ k. pairs.crowded (flat ts) k && (eqb n (getD (flat ts) k 0) || eqb n (getD (flat ts) (next k) 0)))
+      (λ k h. ap (λ (p : Pair). isCrowded ts p && f p) (side-at k h) ∙ ap (λ (c : Bool). c && f (getD (flat ts) k 0, getD (flat ts) (next k) 0)) (side-crowded k h))
 
-  -- a triangle is bad where one of its three sides is over
-  pub bad-is : (t : ℕ) → t < length ts
-      → bad ts (getD ts t nowhere) ≡ pairs.over (flat ts) (3 * t) || pairs.over (flat ts) (3 * t + 1) || pairs.over (flat ts) (3 * t + 2)
-  unfolding bad next
-  bad-is t h =
+  -- a triangle is on a crowded pair where one of its three sides is crowded
+  pub triangle-crowded : (t : ℕ) → t < length ts
+      → onCrowded ts (getD ts t nowhere) ≡ pairs.crowded (flat ts) (3 * t) || pairs.crowded (flat ts) (3 * t + 1) || pairs.crowded (flat ts) (3 * t + 2)
+  unfolding onCrowded next
+  triangle-crowded t h =
       let x = getD ts t nowhere in
       let c = flat-at nowhere ts t h in
       let l : 3 * t + 2 < length (flat ts) = omega (arith, flat-length ts) in
       let n0 : 3 * t / 3 * 3 + (3 * t + 1) % 3 ≡ 3 * t + 1 = omega arith in
       let n1 : (3 * t + 1) / 3 * 3 + (3 * t + 1 + 1) % 3 ≡ 3 * t + 2 = omega arith in
       let n2 : (3 * t + 2) / 3 * 3 + (3 * t + 2 + 1) % 3 ≡ 3 * t = omega arith in
-      let a : over ts (x .0, x .1) ≡ pairs.over (flat ts) (3 * t) =
-      (λ i. over ts (sym (c .0) i, (sym (c .1) ∙ ap (λ (j : ℕ). getD (flat ts) j 0) (sym n0)) i)) ∙ over-side (3 * t) (omega arith) in
-      let d : over ts (x .1, x .2) ≡ pairs.over (flat ts) (3 * t + 1) =
-      (λ i. over ts (sym (c .1) i, (sym (c .2) ∙ ap (λ (j : ℕ). getD (flat ts) j 0) (sym n1)) i)) ∙ over-side (3 * t + 1) (omega arith) in
-      let e : over ts (x .2, x .0) ≡ pairs.over (flat ts) (3 * t + 2) =
-      (λ i. over ts (sym (c .2) i, (sym (c .0) ∙ ap (λ (j : ℕ). getD (flat ts) j 0) (sym n2)) i)) ∙ over-side (3 * t + 2) (omega arith) in
+      let a : isCrowded ts (x .0, x .1) ≡ pairs.crowded (flat ts) (3 * t) =
+      (λ i. isCrowded ts (sym (c .0) i, (sym (c .1) ∙ ap (λ (j : ℕ). getD (flat ts) j 0) (sym n0)) i)) ∙ side-crowded (3 * t) (omega arith) in
+      let d : isCrowded ts (x .1, x .2) ≡ pairs.crowded (flat ts) (3 * t + 1) =
+      (λ i. isCrowded ts (sym (c .1) i, (sym (c .2) ∙ ap (λ (j : ℕ). getD (flat ts) j 0) (sym n1)) i)) ∙ side-crowded (3 * t + 1) (omega arith) in
+      let e : isCrowded ts (x .2, x .0) ≡ pairs.crowded (flat ts) (3 * t + 2) =
+      (λ i. isCrowded ts (sym (c .2) i, (sym (c .0) ∙ ap (λ (j : ℕ). getD (flat ts) j 0) (sym n2)) i)) ∙ side-crowded (3 * t + 2) (omega arith) in
       λ i. a i || d i || e i
 
-  -- WHAT IS ROLLED BACK: the sites of the live cluster vertices at the corners of triangles with a side that is over
+  -- WHAT IS ROLLED BACK: the sites of the live cluster vertices at the corners of triangles with a side that is crowded
   pub owns-are : (vs : List Vertex) (s : ℕ)
-      → owns vs (bads ts) s
-      ≡ any (length ts) (λ t. (pairs.over (flat ts) (3 * t) || pairs.over (flat ts) (3 * t + 1) || pairs.over (flat ts) (3 * t + 2))
+      → owns vs (crowdedTris ts) s
+      ≡ any (length ts) (λ t. (pairs.crowded (flat ts) (3 * t) || pairs.crowded (flat ts) (3 * t + 1) || pairs.crowded (flat ts) (3 * t + 2))
       && (clusterOf vs s (getD (flat ts) (3 * t) 0) || clusterOf vs s (getD (flat ts) (3 * t + 1) 0) || clusterOf vs s (getD (flat ts) (3 * t + 2) 0)))
-  unfolding owns bads
+  unfolding owns crowdedTris
   owns-are vs s =
       let f : Tri → Bool = λ t. clusterOf vs s (t .0) || clusterOf vs s (t .1) || clusterOf vs s (t .2) in
-      some-keep f (bad ts) ts
-      ∙ some-any nowhere (λ t. bad ts t && f t) ts
-      ∙ any-same (length ts) (λ t. bad ts (getD ts t nowhere) && f (getD ts t nowhere)) _
+      some-keep f (onCrowded ts) ts
+      ∙ some-any nowhere (λ t. onCrowded ts t && f t) ts
+      ∙ any-same (length ts) (λ t. onCrowded ts (getD ts t nowhere) && f (getD ts t nowhere)) _
       (λ t h. let c = flat-at nowhere ts t h in
-      λ i. bad-is t h i && (clusterOf vs s (sym (c .0) i) || clusterOf vs s (sym (c .1) i) || clusterOf vs s (sym (c .2) i)))
+      λ i. triangle-crowded t h i && (clusterOf vs s (sym (c .0) i) || clusterOf vs s (sym (c .1) i) || clusterOf vs s (sym (c .2) i)))

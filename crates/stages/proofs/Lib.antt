@@ -1,4 +1,5 @@
 -- The laws of a build, stage by stage.
+pub mod Splits
 pub mod Weights
 pub mod Stages
 pub mod Room
@@ -21,4 +22,5 @@ pub mod HeldOnce
 pub mod Demand
 pub mod Crossed
 pub mod Examples
+pub mod SmallBoxes
 pub mod TwoRounds

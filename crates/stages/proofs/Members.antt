@@ -1,22 +1,21 @@
 -- What holds of every vertex at every stage. Assumes nothing.
-use mathlib.Core.Bool.{Bool, true, false, cond}
+use mathlib.Core.Bool.{Bool, true, false, _&&_, cond}
 use mathlib.Core.List.{List, [], _∷_, map}
 use Prim.Native.Nat.{ℕ, suc}
 use Rattle.stages.specs.Boxes.{Box}
-use Rattle.stages.specs.Vertices.{Vertex, apart, candidates}
-use Rattle.stages.specs.Splits.{place, splits}
+use Rattle.stages.specs.Vertices.{Vertex, apart, candidates, several}
+use Rattle.stages.specs.Splits.{endOf, placeBy}
 use Rattle.stages.specs.Rounds.{liveAt, owners, regrown, retire, retired, rollback, rolled}
 use Rattle.stages.specs.Stages.{Stage, again, first, parted}
 use Rattle.laws.specs.Lists.{All, joined, keep}
-use Rattle.laws.specs.Couples.{Pair}
 use Rattle.laws.proofs.Lists.{all-append, all-joined, all-kept}
 
 module _ (P : Vertex → Type 0) (splits-on : (r : ℕ) (x : Vertex) → P x → All P (apart r x)) where
-  place-all : (ps : List Pair) (n : ℕ) (xs : List Vertex) → All P xs → All P (place ps n xs)
-  unfolding All place
-  place-all ps n [] a = tt
-  place-all ps n (x ∷ xs) a =
-      all-append P (cond (splits ps n x) (apart 0 x) (x ∷ [])) (place ps (suc n) xs) (go (splits ps n x)) (place-all ps (suc n) xs (a .1))
+  place-all : (q : ℕ → Bool) (n : ℕ) (xs : List Vertex) → All P xs → All P (placeBy q n xs)
+  unfolding All placeBy
+  place-all q n [] a = tt
+  place-all q n (x ∷ xs) a =
+      all-append P (cond (several x && q n) (apart 0 x) (x ∷ [])) (placeBy q (suc n) xs) (go (several x && q n)) (place-all q (suc n) xs (a .1))
     where
       go : (c : Bool) → All P (cond c (apart 0 x) (x ∷ []))
       go true = splits-on 0 x (a .0)
@@ -43,7 +42,7 @@ module _ (P : Vertex → Type 0) (splits-on : (r : ℕ) (x : Vertex) → P x →
     pub stage-all : (b : Box) → All P (candidates b) → {vs : List Vertex} → Stage b vs → All P vs
     unfolding rollback
     stage-all b a first = a
-    stage-all b a (parted ps) = place-all ps 0 (candidates b) a
+    stage-all b a (parted ps) = place-all (endOf ps) 0 (candidates b) a
     stage-all b a (again {vs} r st) =
         all-append P (map (retire (owners b vs)) vs) (joined (map (regrown r vs) (owners b vs))) (retire-all (owners b vs) vs (stage-all b a st))
         (grown-all r vs (stage-all b a st) (owners b vs))

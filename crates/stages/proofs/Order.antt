@@ -1,7 +1,7 @@
 -- Owners in site order, each one's live cluster vertices by number: that is all of them by number. Assumes nothing.
 use mathlib.Core.Path.{_≡_, refl, ap, sym, _∙_}
 use mathlib.Core.Bool.{Bool, true, false, not, _&&_, cond, and-true, and-false, and-comm}
-use mathlib.Core.List.{List, [], _∷_, _++_, map, append-nil, append-assoc}
+use mathlib.Core.List.{List, [], _∷_, _++_, map, append-nil}
 use Prim.Native.Nat.{ℕ, zero, suc, _+_, _<_, _≤_}
 use native.Mathlib.Omega.{arith}
 use lib.Dec.{eqb, ltb}
@@ -10,14 +10,14 @@ use lib.ListN.{length}
 use Rattle.stages.specs.Boxes.{Box}
 use Rattle.stages.specs.Vertices.{Vertex, apart, candidates, filled, fresh, held, several, siteVertices}
 use Rattle.stages.specs.Meshes.{meshOf, numbers}
-use Rattle.stages.specs.Splits.{place, splitCount, splits}
-use Rattle.stages.specs.Rounds.{bads, isIn, liveAt, owners, owns, regrown, retire, retired, rollback, rolled}
+use Rattle.stages.specs.Splits.{endOf, placeBy}
+use Rattle.stages.specs.Rounds.{crowdedTris, isIn, liveAt, owners, owns, regrown, retire, retired, rollback, rolled}
 use Rattle.stages.specs.Stages.{Stage, again, first, parted}
 use Rattle.laws.specs.Bools.{bit}
-use Rattle.laws.specs.Ranges.{all, each, sum}
+use Rattle.laws.specs.Ranges.{all, each}
 use Rattle.laws.specs.Lists.{All, count, joined, keep}
-use Rattle.laws.specs.Couples.{Pair}
 use Rattle.lattice.specs.Sites.{sites}
+use Rattle.stages.proofs.Splits.{place-each}
 use Rattle.laws.proofs.Ranges.{each-joined, each-keep, each-once, each-same}
 use Rattle.laws.proofs.Lists.{all-append, count-append, count-keep, joined-append, keep-append, keep-both, keep-never, keep-same}
 
@@ -86,31 +86,15 @@ unfolding All fresh
 all-apart r x s q [] = tt
 all-apart r x s q (e ∷ es) = (q, all-apart r x s q es)
 
-all-place : (ps : List Pair) (n s : ℕ) (xs : List Vertex) → AllAt s xs → AllAt s (place ps n xs)
-unfolding place All apart
-all-place ps n s [] a = tt
-all-place ps n s (x ∷ xs) a =
-    all-append (λ x. x .site ≡ s) (cond (splits ps n x) (apart 0 x) (x ∷ [])) (place ps (suc n) xs) (go (splits ps n x)) (all-place ps (suc n) s xs (a .1))
+all-place : (q : ℕ → Bool) (n s : ℕ) (xs : List Vertex) → AllAt s xs → AllAt s (placeBy q n xs)
+unfolding placeBy All apart
+all-place q n s [] a = tt
+all-place q n s (x ∷ xs) a =
+    all-append (λ x. x .site ≡ s) (cond (several x && q n) (apart 0 x) (x ∷ [])) (placeBy q (suc n) xs) (go (several x && q n)) (all-place q (suc n) s xs (a .1))
   where
     go : (c : Bool) → AllAt s (cond c (apart 0 x) (x ∷ []))
     go true = all-apart 0 x s (a .0) (held x)
     go false = (a .0, tt)
-
-place-append : (ps : List Pair) (n : ℕ) (xs ys : List Vertex) → place ps n (xs ++ ys) ≡ place ps n xs ++ place ps (n + length xs) ys
-unfolding place
-place-append ps n [] ys = let e : n ≡ n + 0 = omega arith in ap (λ (m : ℕ). place ps m ys) e
-place-append ps n (x ∷ xs) ys =
-    let e : suc n + length xs ≡ n + suc (length xs) = omega arith in
-    ap (λ (l : List Vertex). cond (splits ps n x) (apart 0 x) (x ∷ []) ++ l) (place-append ps (suc n) xs ys ∙ ap (λ (m : ℕ). place ps (suc n) xs ++ place ps m ys) e)
-    ∙ sym (append-assoc (cond (splits ps n x) (apart 0 x) (x ∷ [])) (place ps (suc n) xs) (place ps (n + suc (length xs)) ys))
-
--- the second vertex pass, site by site
-pub place-each : (ps : List Pair) (f : ℕ → List Vertex) (n : ℕ) → place ps 0 (each n f) ≡ each n (λ s. place ps (length (each s f)) (f s))
-unfolding each place
-place-each ps f zero = refl
-place-each ps f (suc n) =
-    let e : 0 + length (each n f) ≡ length (each n f) = omega arith in
-    place-append ps 0 (each n f) (f n) ∙ (λ i. place-each ps f n i ++ place ps (e i) (f n))
 
 -- ---- a rollback
 
@@ -181,9 +165,9 @@ pub stage-grouped : (b : Box) {vs : List Vertex} → Stage b vs → Grouped (sit
 unfolding candidates
 stage-grouped b first = grouped-each (siteVertices b) (all-site b) (sites (b .sides))
 stage-grouped b (parted ps) =
-    rw (place-each ps (siteVertices b) (sites (b .sides)))
-    (grouped-each (λ s. place ps (length (each s (siteVertices b))) (siteVertices b s))
-    (λ s. all-place ps (length (each s (siteVertices b))) s (siteVertices b s) (all-site b s)) (sites (b .sides)))
+    rw (place-each (endOf ps) (siteVertices b) (sites (b .sides)))
+    (grouped-each (λ s. placeBy (endOf ps) (length (each s (siteVertices b))) (siteVertices b s))
+    (λ s. all-place (endOf ps) (length (each s (siteVertices b))) s (siteVertices b s) (all-site b s)) (sites (b .sides)))
 stage-grouped b (again {vs} r st) = roll-grouped (sites (b .sides)) r (owners b vs) vs (stage-grouped b st)
 
 -- ---- by number
@@ -284,20 +268,4 @@ pub rollback-number : (b : Box) (r : ℕ) {vs : List Vertex} → Stage b vs
     → rollback r (owners b vs) vs ≡ map (retire (owners b vs)) vs ++ joined (map (apart r) (keep (rolled (owners b vs)) vs))
 unfolding rollback owners
 rollback-number b r {vs} st =
-    ap (λ (l : List Vertex). map (retire (owners b vs)) vs ++ l) (by-number (sites (b .sides)) r (owns vs (bads (meshOf b vs))) vs (stage-grouped b st))
-
--- ---- how many candidates split, site by site
-
-count-more : (ps : List Pair) (n : ℕ) (xs ys : List Vertex) → splitCount ps n (xs ++ ys) ≡ splitCount ps n xs + splitCount ps (n + length xs) ys
-unfolding splitCount
-count-more ps n [] ys = let e : n ≡ n + 0 = omega arith in ap (λ (m : ℕ). splitCount ps m ys) e ∙ omega arith
-count-more ps n (x ∷ xs) ys =
-    let e : suc n + length xs ≡ n + suc (length xs) = omega arith in
-    omega (arith, count-more ps (suc n) xs ys, ap (λ (m : ℕ). splitCount ps m ys) e)
-
-pub split-count-each : (ps : List Pair) (f : ℕ → List Vertex) (n : ℕ) → splitCount ps 0 (each n f) ≡ sum n (λ s. splitCount ps (length (each s f)) (f s))
-unfolding each sum splitCount
-split-count-each ps f zero = refl
-split-count-each ps f (suc n) =
-    let e : 0 + length (each n f) ≡ length (each n f) = omega arith in
-    count-more ps 0 (each n f) (f n) ∙ (λ i. split-count-each ps f n i + splitCount ps (e i) (f n))
+    ap (λ (l : List Vertex). map (retire (owners b vs)) vs ++ l) (by-number (sites (b .sides)) r (owns vs (crowdedTris (meshOf b vs))) vs (stage-grouped b st))

@@ -9,6 +9,7 @@ use lib.ListN.{length}
 use Rattle.stages.specs.Boxes.{Box, owned}
 use Rattle.stages.specs.Vertices.{Vertex, apart, candidates, filled, fresh, held, keys, several, siteVertices}
 use Rattle.stages.specs.Rounds.{built, owners, retired}
+use Rattle.stages.specs.Splits.{endOf}
 use Rattle.stages.specs.Stages.{Stage, again, edgeCount, first, heldKeys, parted}
 use Rattle.stages.proofs.Weights.{place-le, roll-le}
 use Rattle.stages.proofs.Stages.{built-stage, held-sum, keysOf, owners-once, stage-held}
@@ -55,7 +56,7 @@ retired-worth x = refl
 
 stage-worth : (b : Box) {vs : List Vertex} → Stage b vs → total worth vs ≤ total worth (candidates b)
 stage-worth b first = omega arith
-stage-worth b (parted ps) = place-le worth ps (λ x h. omega (arith, apart-worth 0 x h)) 0 (candidates b)
+stage-worth b (parted ps) = place-le worth (endOf ps) (λ x h. omega (arith, apart-worth 0 x h)) 0 (candidates b)
 stage-worth b (again {vs} r st) =
     omega
     (arith, roll-le worth r (owners b vs) (owners-once b vs) (λ x h. omega (arith, apart-worth r x h, retired-worth x)) vs, stage-worth b st)

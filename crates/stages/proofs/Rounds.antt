@@ -7,7 +7,7 @@ use native.Mathlib.Omega.{arith}
 use Rattle.stages.specs.Boxes.{Box}
 use Rattle.stages.specs.Vertices.{Vertex}
 use Rattle.stages.specs.Meshes.{meshOf, numbers}
-use Rattle.stages.specs.Rounds.{bads, given, isIn, owners, owns, rollback, rounds, roundsDone}
+use Rattle.stages.specs.Rounds.{crowdedTris, given, isIn, owners, owns, rollback, rounds, roundsDone}
 use Rattle.stages.proofs.Stages.{given-case}
 use Rattle.stages.proofs.Order.{in-keep}
 use Rattle.laws.specs.Ranges.{any, each}
@@ -68,16 +68,16 @@ module _ (b : Box) where
       go false true e l r = absurd (true≢false l)
       go false false e l r = append-nil (keep p (numbers n)) ∙ r e
 
-  -- no site owns a live cluster vertex in a bad triangle: no owner
-  pub owners-none : (vs : List Vertex) → any (sites (b .sides)) (owns vs (bads (meshOf b vs))) ≡ false → owners b vs ≡ []
+  -- no site owns a live cluster vertex in a triangle on a crowded pair: no owner
+  pub owners-none : (vs : List Vertex) → any (sites (b .sides)) (owns vs (crowdedTris (meshOf b vs))) ≡ false → owners b vs ≡ []
   unfolding owners
-  owners-none vs h = owner-none (owns vs (bads (meshOf b vs))) (sites (b .sides)) h
+  owners-none vs h = owner-none (owns vs (crowdedTris (meshOf b vs))) (sites (b .sides)) h
 
   -- some site does: it is one of the owners
-  pub owners-some : (vs : List Vertex) (s : ℕ) → s < sites (b .sides) → owns vs (bads (meshOf b vs)) s ≡ true → isIn (owners b vs) s ≡ true
+  pub owners-some : (vs : List Vertex) (s : ℕ) → s < sites (b .sides) → owns vs (crowdedTris (meshOf b vs)) s ≡ true → isIn (owners b vs) s ≡ true
   unfolding owners
-  owners-some vs s h e = in-keep (owns vs (bads (meshOf b vs))) (sites (b .sides)) s h ∙ e
+  owners-some vs s h e = in-keep (owns vs (crowdedTris (meshOf b vs))) (sites (b .sides)) s h ∙ e
 
-  pub owners-in : (vs : List Vertex) (s : ℕ) → s < sites (b .sides) → isIn (owners b vs) s ≡ owns vs (bads (meshOf b vs)) s
+  pub owners-in : (vs : List Vertex) (s : ℕ) → s < sites (b .sides) → isIn (owners b vs) s ≡ owns vs (crowdedTris (meshOf b vs)) s
   unfolding owners
-  owners-in vs s h = in-keep (owns vs (bads (meshOf b vs))) (sites (b .sides)) s h
+  owners-in vs s h = in-keep (owns vs (crowdedTris (meshOf b vs))) (sites (b .sides)) s h

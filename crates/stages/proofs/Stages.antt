@@ -8,8 +8,8 @@ use lib.Dec.{eqb}
 use Rattle.stages.specs.Boxes.{Box, owned}
 use Rattle.stages.specs.Vertices.{Vertex, apart, candidates, fresh, held, keys}
 use Rattle.stages.specs.Meshes.{meshOf, numbers}
-use Rattle.stages.specs.Splits.{badPairs, place, split}
-use Rattle.stages.specs.Rounds.{bads, built, given, owners, owns, retired, rollback, rounds}
+use Rattle.stages.specs.Splits.{crowdedPairs, endOf, place, split}
+use Rattle.stages.specs.Rounds.{crowdedTris, built, given, owners, owns, retired, rollback, rounds}
 use Rattle.stages.specs.Stages.{Stage, again, first, heldKeys, parted}
 use Rattle.stages.proofs.Weights.{place-same, roll-same}
 use Rattle.laws.specs.Lists.{count, total}
@@ -20,7 +20,7 @@ use Rattle.laws.proofs.Lists.{count-joined, count-keep, total-map}
 
 pub owners-once : (b : Box) (vs : List Vertex) (s : ℕ) → count (eqb s) (owners b vs) ≤ 1
 unfolding owners numbers
-owners-once b vs s = omega (arith, count-keep (eqb s) (owns vs (bads (meshOf b vs))) (numbers (sites (b .sides))), each-once (sites (b .sides)) s .most)
+owners-once b vs s = omega (arith, count-keep (eqb s) (owns vs (crowdedTris (meshOf b vs))) (numbers (sites (b .sides))), each-once (sites (b .sides)) s .most)
 
 -- ---- held edges
 
@@ -42,7 +42,7 @@ module _ (b : Box) (q : ℕ → Bool) where
   retired-keys x = refl
 
   pub place-keys : (ps : List Pair) (n : ℕ) (vs : List Vertex) → total keysOf (place ps n vs) ≡ total keysOf vs
-  place-keys ps n vs = place-same keysOf ps (λ x h. apart-keys 0 x) n vs
+  place-keys ps n vs = place-same keysOf (endOf ps) (λ x h. apart-keys 0 x) n vs
 
   pub roll-keys : (r : ℕ) (os : List ℕ) → ((s : ℕ) → count (eqb s) os ≤ 1) → (vs : List Vertex) → total keysOf (rollback r os vs) ≡ total keysOf vs
   roll-keys r os once vs = roll-same keysOf r os once (λ x h. omega (arith, apart-keys r x, retired-keys x)) vs
@@ -76,7 +76,7 @@ rounds-stage b (suc k) r vs st =
 
 pub split-stage : (b : Box) → Stage b (split b)
 unfolding split
-split-stage b = parted (badPairs b)
+split-stage b = parted (crowdedPairs b)
 
 pub built-stage : (b : Box) (R : ℕ) → Stage b (built b R)
 unfolding built

@@ -13,7 +13,7 @@ use Rattle.stages.specs.Vertices.{Vertex, apart, fresh, held, keys, nobo
 use Rattle.stages.specs.Meshes.{find, holds, numbers, tableOf}
 use Rattle.stages.specs.Rounds.{isIn, retired}
 use Rattle.stages.specs.Stages.{Sound, Stage}
-use Rattle.stages.specs.Inner.Steps.{number, paint, paintAll}
+use Rattle.stages.specs.Inner.Steps.{number, paint, paintFrom}
 use Rattle.stages.proofs.Stages.{apart-keys, keysOf, retired-keys}
 use Rattle.stages.proofs.Lookup.{find-none, holds-not, holds-pos, times}
 use Rattle.stages.proofs.Longer.{stage-once}
@@ -218,15 +218,15 @@ module _ (b : Box) where
 
 -- ---- the vertex pass paints the table
 
-pub paint-pass : (b : Box) (ws vs : List Vertex) → ((k : ℕ) → times b k (ws ++ vs) ≤ 1) → tableOf b (ws ++ vs) ≡ paintAll b (length ws) vs (tableOf b ws)
-unfolding paintAll total
+pub paint-pass : (b : Box) (ws vs : List Vertex) → ((k : ℕ) → times b k (ws ++ vs) ≤ 1) → tableOf b (ws ++ vs) ≡ paintFrom (b .sides) (length ws) vs (tableOf b ws)
+unfolding paintFrom keys total
 paint-pass b ws [] h = ap (tableOf b) (append-nil ws)
 paint-pass b ws (x ∷ vs) h =
     let e : ws ++ x ∷ vs ≡ (ws ++ x ∷ []) ++ vs = sym (append-assoc ws (x ∷ []) vs) in
     let l : length (ws ++ x ∷ []) ≡ suc (length ws) = length-append ws (x ∷ []) ∙ omega arith in
     ap (tableOf b) e
     ∙ paint-pass b (ws ++ x ∷ []) vs (λ k. omega (arith, h k, ap (λ (l : List Vertex). times b k l) e))
-    ∙ (λ i. paintAll b (l i) vs (table-add b ws x (λ k. omega (arith, h k, total-append (keysOf b (eqb k)) ws (x ∷ vs))) i))
+    ∙ (λ i. paintFrom (b .sides) (l i) vs (table-add b ws x (λ k. omega (arith, h k, total-append (keysOf b (eqb k)) ws (x ∷ vs))) i))
 
 map-none : (n : ℕ) → map (λ (k : ℕ). none) (numbers n) ≡ replicate n none
 unfolding numbers each
@@ -242,5 +242,5 @@ unfolding tableOf find
 table-start b = map-none (7 * sites (b .sides))
 
 -- THE TABLE OF A STAGE IS ITS VERTICES PAINTED IN TURN
-pub stage-painted : (b : Box) → Sound b → {vs : List Vertex} → Stage b vs → tableOf b vs ≡ paintAll b 0 vs (replicate (7 * sites (b .sides)) none)
-stage-painted b S {vs} st = paint-pass b [] vs (stage-once b S st) ∙ ap (paintAll b 0 vs) (table-start b)
+pub stage-painted : (b : Box) → Sound b → {vs : List Vertex} → Stage b vs → tableOf b vs ≡ paintFrom (b .sides) 0 vs (replicate (7 * sites (b .sides)) none)
+stage-painted b S {vs} st = paint-pass b [] vs (stage-once b S st) ∙ ap (paintFrom (b .sides) 0 vs) (table-start b)

@@ -1,4 +1,4 @@
--- The definition computes the oracle's answer of a box that takes two rounds, from its samples. Assumes nothing.
+-- The definition computes the oracle's answer of a box that takes two rounds, from its samples. Written by tools/oracle/examples: change that, not this. Assumes nothing.
 use mathlib.Core.Path.{_≡_, refl}
 use mathlib.Core.Bool.{true}
 use mathlib.Core.List.{[], _∷_}

@@ -6,14 +6,13 @@ use Prim.Native.Nat.{ℕ, suc, _+_, _≤_}
 use native.Mathlib.Omega.{arith}
 use lib.Dec.{eqb}
 use Rattle.stages.specs.Vertices.{Vertex, apart, several}
-use Rattle.stages.specs.Splits.{endOf, place, splits}
+use Rattle.stages.specs.Splits.{placeBy}
 use Rattle.stages.specs.Rounds.{isIn, liveAt, regrown, retire, retired, rollback, rolled}
 use Rattle.laws.specs.Lists.{count, joined, keep, total}
-use Rattle.laws.specs.Couples.{Pair}
 use Rattle.laws.proofs.Lists.{total-append, total-joined, total-keep, total-le, total-map, total-once, total-plus, total-same, total-swap, total-zero}
 
 module _ (W : Vertex → ℕ) where
-  module _ (ps : List Pair) where
+  module _ (q : ℕ → Bool) where
     one-le : ((x : Vertex) → several x ≡ true → total W (apart 0 x) ≤ W x)
         → (x : Vertex) (c d : Bool) → several x ≡ c → total W (cond (c && d) (apart 0 x) (x ∷ [])) ≤ W x
     unfolding total
@@ -22,15 +21,15 @@ module _ (W : Vertex → ℕ) where
     one-le h x true false e = omega arith
 
     pub place-le : ((x : Vertex) → several x ≡ true → total W (apart 0 x) ≤ W x)
-        → (n : ℕ) (xs : List Vertex) → total W (place ps n xs) ≤ total W xs
-    unfolding total place splits
+        → (n : ℕ) (xs : List Vertex) → total W (placeBy q n xs) ≤ total W xs
+    unfolding total placeBy
     place-le h n [] = omega arith
     place-le h n (x ∷ xs) =
         omega (
           arith,
-          total-append W (cond (several x && endOf ps n) (apart 0 x) (x ∷ [])) (place ps (suc n) xs),
+          total-append W (cond (several x && q n) (apart 0 x) (x ∷ [])) (placeBy q (suc n) xs),
           place-le h (suc n) xs,
-          one-le h x (several x) (endOf ps n) refl,
+          one-le h x (several x) (q n) refl,
         )
 
     one-same : ((x : Vertex) → several x ≡ true → total W (apart 0 x) ≡ W x)
@@ -41,15 +40,15 @@ module _ (W : Vertex → ℕ) where
     one-same h x true false e = omega arith
 
     pub place-same : ((x : Vertex) → several x ≡ true → total W (apart 0 x) ≡ W x)
-        → (n : ℕ) (xs : List Vertex) → total W (place ps n xs) ≡ total W xs
-    unfolding total place splits
+        → (n : ℕ) (xs : List Vertex) → total W (placeBy q n xs) ≡ total W xs
+    unfolding total placeBy
     place-same h n [] = refl
     place-same h n (x ∷ xs) =
         omega (
           arith,
-          total-append W (cond (several x && endOf ps n) (apart 0 x) (x ∷ [])) (place ps (suc n) xs),
+          total-append W (cond (several x && q n) (apart 0 x) (x ∷ [])) (placeBy q (suc n) xs),
           place-same h (suc n) xs,
-          one-same h x (several x) (endOf ps n) refl,
+          one-same h x (several x) (q n) refl,
         )
 
   module _ (r : ℕ) (os : List ℕ) (once : (s : ℕ) → count (eqb s) os ≤ 1) where

@@ -11,14 +11,14 @@ use Rattle.lattice.specs.Sites.{sites}
 use Rattle.stages.specs.Boxes.{Box}
 use Rattle.stages.specs.Vertices.{Vertex, nobody, several, apart}
 use Rattle.stages.specs.Meshes.{numbers, meshOf}
-use Rattle.stages.specs.Splits.{over, some, split}
+use Rattle.stages.specs.Splits.{isCrowded, some, split}
 
 -- the triangles on a pair with more than two
-unfoldable pub bad : List Tri → Tri → Bool
-bad ts t = over ts (t .0, t .1) || over ts (t .1, t .2) || over ts (t .2, t .0)
+unfoldable pub onCrowded : List Tri → Tri → Bool
+onCrowded ts t = isCrowded ts (t .0, t .1) || isCrowded ts (t .1, t .2) || isCrowded ts (t .2, t .0)
 
-unfoldable pub bads : List Tri → List Tri
-bads ts = keep (bad ts) ts
+unfoldable pub crowdedTris : List Tri → List Tri
+crowdedTris ts = keep (onCrowded ts) ts
 
 -- vertex n is a live cluster vertex of the site s
 unfoldable pub clusterOf : List Vertex → ℕ → ℕ → Bool
@@ -29,7 +29,7 @@ unfoldable pub owns : List Vertex → List Tri → ℕ → Bool
 owns vs ts s = some (λ t. clusterOf vs s (t .0) || clusterOf vs s (t .1) || clusterOf vs s (t .2)) ts
 
 unfoldable pub owners : Box → List Vertex → List ℕ
-owners b vs = keep (owns vs (bads (meshOf b vs))) (numbers (sites (b .sides)))
+owners b vs = keep (owns vs (crowdedTris (meshOf b vs))) (numbers (sites (b .sides)))
 
 unfoldable pub isIn : List ℕ → ℕ → Bool
 isIn l s = ltb 0 (count (eqb s) l)

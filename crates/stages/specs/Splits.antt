@@ -12,13 +12,13 @@ use Rattle.stages.specs.Boxes.{Box}
 use Rattle.stages.specs.Vertices.{Vertex, several, apart, candidates}
 use Rattle.stages.specs.Meshes.{meshOf}
 
--- how many triangles are on the pair, more than two
-unfoldable pub over : List Tri → Pair → Bool
-over ts p = ltb 2 (count (touches (p .0) (p .1)) ts)
+-- more than two triangles are on the pair
+unfoldable pub isCrowded : List Tri → Pair → Bool
+isCrowded ts p = ltb 2 (count (touches (p .0) (p .1)) ts)
 
 -- the sides that are counted more than twice
-unfoldable pub overs : List Tri → List Pair
-overs ts = keep (over ts) (sidesOf ts)
+unfoldable pub crowdedSides : List Tri → List Pair
+crowdedSides ts = keep (isCrowded ts) (sidesOf ts)
 
 -- one of the members passes the test
 unfoldable pub some : {A : Type 0} → (A → Bool) → List A → Bool
@@ -27,21 +27,25 @@ some p xs = ltb 0 (count p xs)
 unfoldable pub endOf : List Pair → ℕ → Bool
 endOf ps n = some (λ p. eqb n (p .0) || eqb n (p .1)) ps
 
--- candidate n, the vertex x, is split: an end of such a side, and it holds more than one edge
-unfoldable pub splits : List Pair → ℕ → Vertex → Bool
-splits ps n x = several x && endOf ps n
+-- the vertices from number n on, where q says which have a flag: one that has a flag and holds more than one edge has its edges apart
+unfoldable pub placeBy : (ℕ → Bool) → ℕ → List Vertex → List Vertex
+placeBy q n [] = []
+placeBy q n (x ∷ xs) = cond (several x && q n) (apart 0 x) (x ∷ []) ++ placeBy q (suc n) xs
 
--- the vertices from number n on, with the split ones' edges apart
-unfoldable pub place : List Pair → ℕ → List Vertex → List Vertex
-place ps n [] = []
-place ps n (x ∷ xs) = cond (splits ps n x) (apart 0 x) (x ∷ []) ++ place ps (suc n) xs
+-- how many of them are split
+unfoldable pub splitBy : (ℕ → Bool) → ℕ → List Vertex → ℕ
+splitBy q n [] = 0
+splitBy q n (x ∷ xs) = cond (several x && q n) 1 0 + splitBy q (suc n) xs
 
-unfoldable pub splitCount : List Pair → ℕ → List Vertex → ℕ
-splitCount ps n [] = 0
-splitCount ps n (x ∷ xs) = cond (splits ps n x) 1 0 + splitCount ps (suc n) xs
+-- the same where the ends of the pairs have the flags
+abbrev pub place : List Pair → ℕ → List Vertex → List Vertex
+place ps = placeBy (endOf ps)
 
-unfoldable pub badPairs : Box → List Pair
-badPairs b = overs (meshOf b (candidates b))
+abbrev pub splitCount : List Pair → ℕ → List Vertex → ℕ
+splitCount ps = splitBy (endOf ps)
+
+unfoldable pub crowdedPairs : Box → List Pair
+crowdedPairs b = crowdedSides (meshOf b (candidates b))
 
 unfoldable pub split : Box → List Vertex
-split b = place (badPairs b) 0 (candidates b)
+split b = place (crowdedPairs b) 0 (candidates b)

@@ -1,4 +1,4 @@
--- The stages of a build, how often an owned edge is held, and when one lookup of vertices is finer than another. Assumes nothing.
+-- The stages of a build, and how often an owned edge is held. Assumes nothing.
 use mathlib.Core.Path.{_≡_}
 use mathlib.Core.Bool.{true}
 use mathlib.Core.List.{List, map}
@@ -51,8 +51,3 @@ pub record Named (b : Box) (vs : List Vertex) (k : ℕ) : Type 0 where
 pub record Sound (b : Box) : Type 0 where
   pub once : (k : ℕ) → holders b (candidates b) k ≤ 1
   pub few : 3 * edgeCount b ≤ 2 * none
-
--- One lookup is finer than another: edges that have one vertex in it have one in the other, and an edge without a vertex in it has none in the other.
-pub record Finer (G F : ℕ → ℕ) : Type 0 where
-  pub same : (j k : ℕ) → G j ≡ G k → F j ≡ F k
-  pub gone : (k : ℕ) → G k ≡ none → F k ≡ none

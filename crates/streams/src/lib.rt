@@ -1,5 +1,5 @@
-// A program's bytes: all of its input, from standard input or from the file that its last argument names, and its answer in one go. What fails is said
-// on standard error.
+// A program's bytes: all of its input, from standard input or from the file that its last argument names, and its answer in one go; and the masks in lines
+// that programs print. What fails is said on standard error.
 use libc::STDERR_FILENO;
 use libc::STDIN_FILENO;
 use libc::STDOUT_FILENO;
@@ -107,16 +107,37 @@ pub fn write(answer: &[u8]) {
     os::fail(b"the answer");
 }
 
-// Reads on to the end of the input, once it is answered, so that whoever writes it is not cut off. A proved loop has to end, and nothing says that an input
-// does, so it counts down from a number that no run uses up.
+// Reads on to the end of the input, once it is answered, so that whoever writes it is not cut off; at most 65,536 times, up to 4 GB, so that an input
+// without an end is left.
 pub fn finish(fd: i32) {
     let mut space = io::large_buffer();
-    let mut turns = u64::MAX;
+    let mut turns = 65536u64;
     while turns > 0 {
         let some = take_some(fd, &mut space);
         if some.length == 0 {
             return;
         }
         turns -= 1;
+    }
+}
+
+// ---- words of a printed line
+
+fn wide(m: u16) -> u64 {
+    m as u64
+}
+
+// A mask after a blank, by its four hex digits.
+pub fn mask_word(m: u16) {
+    io::write_all(STDOUT_FILENO, b" ");
+    io::print_hex(STDOUT_FILENO, wide(m), 4);
+}
+
+// The first `count` of the masks.
+pub fn mask_words(count: usize, masks: [u16; 14]) {
+    for i in 0..14 {
+        if i < count {
+            mask_word(masks[i]);
+        }
     }
 }

@@ -2,7 +2,8 @@
 use lattice::EdgeOwner;
 use lattice::Ijk;
 use libc::STDOUT_FILENO;
-ghost use Prim.Native.Nat.{_<_};
+ghost use Prim.Native.Nat.{_<_, _≤_};
+ghost use Rattle.tables_main.specs.Lines.{linesIn};
 
 fn text(t: &[u8]) {
     io::write_all(STDOUT_FILENO, t);
@@ -145,33 +146,64 @@ fn case_line(c: usize)
     text(b"\n");
 }
 
-fn edges() {
-    for e in 0..14 {
-        delta_line(e);
-    }
-    axes();
-    for e in 0..14 {
-        reverse_line(e);
-    }
-    for e in 0..14 {
-        neighbour_line(e);
+// The tables with a line for each entry.
+enum Table {
+    Deltas,
+    Reverses,
+    Neighbours,
+    FlatHoles,
+    TetEdges,
+    TetPairs,
+    Cases,
+}
+
+fn line(t: Table, i: usize)
+    requires { ⌜ i < linesIn t ⌝ }
+{
+    match t {
+        Table::Deltas => {
+            delta_line(i);
+        }
+        Table::Reverses => {
+            reverse_line(i);
+        }
+        Table::Neighbours => {
+            neighbour_line(i);
+        }
+        Table::FlatHoles => {
+            flat_hole_line(i);
+        }
+        Table::TetEdges => {
+            tet_line(i);
+        }
+        Table::TetPairs => {
+            pair_line(i);
+        }
+        Table::Cases => {
+            case_line(i);
+        }
     }
 }
 
-fn rows() {
-    for i in 0..36 {
-        flat_hole_line(i);
+// The first n lines of a table.
+fn lines(t: Table, n: usize)
+    requires { ⌜ n ≤ linesIn t ⌝ }
+{
+    for i in 0..n {
+        line(t, i);
     }
+}
+
+fn all_tables() {
+    lines(Table::Deltas, 14);
+    axes();
+    lines(Table::Reverses, 14);
+    lines(Table::Neighbours, 14);
+    lines(Table::FlatHoles, 36);
     all_mask();
-    for t in 0..6 {
-        tet_line(t);
-    }
-    for e in 0..6 {
-        pair_line(e);
-    }
-    for c in 0..16 {
-        case_line(c);
-    }
+    lines(Table::TetEdges, 6);
+    lines(Table::TetPairs, 6);
+    lines(Table::Cases, 16);
 }
 
 // The label, and which of the two is the owner.
@@ -236,8 +268,7 @@ fn far_owners() {
 }
 
 fn main() {
-    edges();
-    rows();
+    all_tables();
     owners();
     far_owners();
 }

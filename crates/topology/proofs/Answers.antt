@@ -27,7 +27,7 @@ use Rattle.topology.specs.Flat.{pairsCollapse, rowFlat, isFlat}
 use Rattle.topology.specs.Topology.{Kind, empty, closed, surfaces, holes, single, kindOf, caseBy, singles, clustersIn, result, caseOf, topologyOf, isSingle, asksEnds}
 use Rattle.topology.proofs.Parts.{components-parts, parts-unique}
 use Rattle.topology.proofs.WalkLoops.{components-le}
-use Rattle.topology.proofs.Rows.{off, on, off-first, off-second, on-first, on-second}
+use Rattle.topology.proofs.Rows.{off, on, row-edges}
 use Rattle.topology.proofs.Singles.{at, at-set, at-unset, singles-le}
 use Rattle.topology.proofs.Cases.{fourteen-own, fourteen-lt}
 
@@ -185,7 +185,7 @@ flat-ends : (m : ℕ) (ends ends′ : List Sample) (h : Float) → ((e : ℕ) �
 unfolding isFlat rowFlat pairsCollapse
 flat-ends m ends ends′ h same =
     any-same 36 (λ i. rowFlat m ends h (flatHole i)) (λ i. rowFlat m ends′ h (flatHole i))
-    (λ i l. rw (same (off i .first) (off-first i l), same (off i .second) (off-second i l), same (on i .first) (on-first i l), same (on i .second) (on-second i l)))
+    (λ i l. let e = row-edges i l in rw (same (off i .first) (e .0 .0), same (off i .second) (e .0 .1), same (on i .first) (e .1 .0), same (on i .second) (e .1 .1)))
 
 pub depends-fourteen : (near : ℕ) (cluster : Bool) (ends ends′ : List Sample) (h : Float) → ((e : ℕ) → e < 14 → getD ends e Missing ≡ getD ends′ e Missing)
     → topologyOf near cluster ends h ≡ topologyOf near cluster ends′ h

@@ -25,7 +25,7 @@ use Rattle.samples.specs.declared.Sample.{Sample}
 use Rattle.samples.specs.declared.Sample.the-variants.{Missing, Value}
 use Rattle.topology.specs.Walk.{lowBit}
 use Rattle.topology.specs.Flat.{twoEdges, collapses, collapsesAt, pairsCollapse, rowFlat, isFlat, Collapse}
-use Rattle.topology.proofs.Rows.{off, on, off-second, on-second, by-four}
+use Rattle.topology.proofs.Rows.{off, on, row-edges, both-on, four}
 
 -- ---- from a row
 
@@ -94,8 +94,8 @@ module _ (m : ℕ) (ends : List Sample) (h : Float) where
         b = off i .second;
         c = on i .first;
         d = on i .second;
-        a-b = (ltb-true _ _ (lts .0), off-second i l, n0 .0);
-        c-d = (ltb-true _ _ (lts .1), on-second i l);
+        a-b = (ltb-true _ _ (lts .0), row-edges i l .0 .1, n0 .0);
+        c-d = (ltb-true _ _ (lts .1), row-edges i l .1 .1);
         to-c = (nc .0, nc .1);
         to-d = (nd .0, nd .1);
         far = (unset m _ _ e (eqb-true _ _ (se .0)), unset m _ _ e (eqb-true _ _ (se .1)));
@@ -210,8 +210,8 @@ collapse-flat m ends h k =
     let no = names m (opposite a b) c d ol opp in
     let row = row-of a b (k .a-b .0) hb (k .a-b .2) in
     let flat : rowFlat m ends h (holeOf a b) ≡ true =
-    by-four m ends h (holeOf a b) (none-in m (2 ^ a + 2 ^ b) a b pl edges (k .far .0) (k .far .1)) (all-in m (opposite a b) c d ol opp (k .near .0) (k .near .1))
-    (twoEdges (2 ^ a + 2 ^ b)) (twoEdges (opposite a b)) refl refl (Value (k .va)) (Value (k .vb)) (Value (k .vc)) (Value (k .vd))
+    both-on m ends h (holeOf a b) (none-in m (2 ^ a + 2 ^ b) a b pl edges (k .far .0) (k .far .1)) (all-in m (opposite a b) c d ol opp (k .near .0) (k .near .1))
+    ∙ four ends h (twoEdges (2 ^ a + 2 ^ b)) (twoEdges (opposite a b)) (Value (k .va)) (Value (k .vb)) (Value (k .vc)) (Value (k .vd))
     (ap (λ (x : ℕ). getD ends x Missing) (ne .0) ∙ k .at-a) (ap (λ (x : ℕ). getD ends x Missing) (ne .1) ∙ k .at-b)
     (ap (λ (x : ℕ). getD ends x Missing) (no .0) ∙ k .at-c) (ap (λ (x : ℕ). getD ends x Missing) (no .1) ∙ k .at-d)
     ∙ k .falls in

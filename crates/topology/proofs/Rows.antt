@@ -1,10 +1,10 @@
 -- The rows of the flat-hole table: their edges, the loop over them, and one row by the tests on the way. Assumes nothing.
 use mathlib.Core.Path.{_≡_, refl, sym, ap, ap₂, _∙_}
-use mathlib.Core.Bool.{Bool, true, false, _||_}
+use mathlib.Core.Bool.{Bool, true, false, _&&_, _||_}
 use mathlib.Core.List.{List}
 use Prim.Native.Nat.{ℕ, _+_, _<_, _≤_}
 use native.Mathlib.Omega.{arith}
-use lib.Dec.{ltb, ltb→lt}
+use lib.Dec.{T, ltb, ltb→lt}
 use lib.ListN.{getD}
 use lib.Ieee.{Float}
 use lib.Bits.{bitAnd}
@@ -12,6 +12,7 @@ use lib.Count.{trailingZeros}
 use borrow.Author.Tests.{eq-eqb, ne-eqb}
 use Rattle.laws.specs.Bools.{bit}
 use Rattle.laws.specs.Ranges.{all, any}
+use Rattle.laws.proofs.Bools.{and-left, and-right}
 use Rattle.laws.proofs.Ranges.{all-at, any-more, any-some}
 use Rattle.tables.specs.declared.FlatHole.{FlatHole}
 use Rattle.tables.specs.Edges.{areNeighbours}
@@ -30,22 +31,27 @@ off i = twoEdges (flatHole i .edges)
 abbrev pub on : ℕ → TwoEdges
 on i = twoEdges (flatHole i .opposite)
 
-module _ (i : ℕ) (h : i < 36) where
-  pub off-first : off i .first < 14
-  unfolding all flatHole flatHoles holeOf areNeighbours bit trailingZeros lowBit
-  off-first = ltb→lt _ _ (all-at 36 (λ i. ltb (off i .first) 14) tt i h)
+abbrev among : TwoEdges → Bool
+among e = ltb (e .first) 14 && ltb (e .second) 14
 
-  pub off-second : off i .second < 14
-  unfolding all flatHole flatHoles holeOf areNeighbours bit trailingZeros lowBit
-  off-second = ltb→lt _ _ (all-at 36 (λ i. ltb (off i .second) 14) tt i h)
+among-lt : (e : TwoEdges) → T (among e) → (e .first < 14) × (e .second < 14)
+among-lt e h = (ltb→lt _ _ (and-left (ltb (e .first) 14) _ h), ltb→lt _ _ (and-right (ltb (e .first) 14) _ h))
 
-  pub on-first : on i .first < 14
-  unfolding all flatHole flatHoles holeOf areNeighbours bit trailingZeros lowBit
-  on-first = ltb→lt _ _ (all-at 36 (λ i. ltb (on i .first) 14) tt i h)
+pub row-edges : (i : ℕ) → i < 36 → ((off i .first < 14) × (off i .second < 14)) × ((on i .first < 14) × (on i .second < 14))
+unfolding all flatHole flatHoles holeOf areNeighbours bit trailingZeros lowBit
+row-edges i h =
+    let b : T (among (off i) && among (on i)) = all-at 36 (λ i. among (off i) && among (on i)) tt i h in
+    (among-lt (off i) (and-left (among (off i)) (among (on i)) b), among-lt (on i) (and-right (among (off i)) (among (on i)) b))
 
-  pub on-second : on i .second < 14
-  unfolding all flatHole flatHoles holeOf areNeighbours bit trailingZeros lowBit
-  on-second = ltb→lt _ _ (all-at 36 (λ i. ltb (on i .second) 14) tt i h)
+pub edges-lt : (i : ℕ) → i < 36 → (o n : TwoEdges) → o ≡ off i → n ≡ on i → (o .first < 14) × (o .second < 14) × (n .first < 14) × (n .second < 14)
+edges-lt i l o n eo en = let e = row-edges i l in rw (eo, en) (e .0 .0, e .0 .1, e .1 .0, e .1 .1)
+
+-- ---- the four samples of a row
+
+pub four : (ends : List Sample) (h : Float) (o n : TwoEdges) (a b c d : Sample) → getD ends (o .first) Missing ≡ a → getD ends (o .second) Missing ≡ b
+    → getD ends (n .first) Missing ≡ c → getD ends (n .second) Missing ≡ d → pairsCollapse ends h o n ≡ collapsesAt a b c d h
+unfolding pairsCollapse
+four ends h o n a b c d ea eb ec ed = rw (ea, eb, ec, ed)
 
 -- ---- the loop: no row so far is flat
 
@@ -79,17 +85,6 @@ module _ (m : ℕ) (ends : List Sample) (h : Float) where
     unfolding rowFlat
     no-opposite p n = rw (eq-eqb _ _ p, ne-eqb _ _ n)
 
-    both-on : bitAnd m (r .edges) ≡ 0 → bitAnd m (r .opposite) ≡ r .opposite → rowFlat m ends h r ≡ pairsCollapse ends h (twoEdges (r .edges)) (twoEdges (r .opposite))
+    pub both-on : bitAnd m (r .edges) ≡ 0 → bitAnd m (r .opposite) ≡ r .opposite → rowFlat m ends h r ≡ pairsCollapse ends h (twoEdges (r .edges)) (twoEdges (r .opposite))
     unfolding rowFlat
     both-on p q = rw (eq-eqb _ _ p, eq-eqb _ _ q)
-
-    four : (o n : TwoEdges) (a b c d : Sample) → getD ends (o .first) Missing ≡ a → getD ends (o .second) Missing ≡ b → getD ends (n .first) Missing ≡ c → getD ends (n .second) Missing ≡ d
-        → pairsCollapse ends h o n ≡ collapsesAt a b c d h
-    unfolding pairsCollapse
-    four o n a b c d ea eb ec ed = rw (ea, eb, ec, ed)
-
-    -- by the samples at its four ends
-    pub by-four : bitAnd m (r .edges) ≡ 0 → bitAnd m (r .opposite) ≡ r .opposite → (o n : TwoEdges) → o ≡ twoEdges (r .edges) → n ≡ twoEdges (r .opposite)
-        → (a b c d : Sample) → getD ends (o .first) Missing ≡ a → getD ends (o .second) Missing ≡ b → getD ends (n .first) Missing ≡ c → getD ends (n .second) Missing ≡ d
-        → rowFlat m ends h r ≡ collapsesAt a b c d h
-    by-four p q o n eo en a b c d ea eb ec ed = both-on p q ∙ sym (ap₂ (pairsCollapse ends h) eo en) ∙ four o n a b c d ea eb ec ed

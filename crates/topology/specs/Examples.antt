@@ -1,4 +1,4 @@
--- Document 01's examples of the topology test: one table, one statement, which antt computes. Assumes nothing.
+-- Examples of the topology test (docs/SCOPE.md, S14.1): one table, one statement, which antt computes. Assumes nothing.
 use mathlib.Core.Path.{_≡_, refl}
 use mathlib.Core.Bool.{true, false}
 use mathlib.Core.List.{List, [], _∷_, map}

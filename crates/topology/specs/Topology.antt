@@ -89,7 +89,7 @@ isSingle single = true
 unfoldable pub asksEnds : ℕ → Bool → Bool
 asksEnds near cluster = cluster && isSingle (kindOf (fourteen near))
 
--- document 01's number of a case; a site that is not clustered has the next
+-- the number of a case (docs/SCOPE.md, S4.3); a site that is not clustered has the next
 unfoldable pub caseNumber : TopologyCase → ℕ
 caseNumber ClosedSurface = 0
 caseNumber MultiHole = 1

@@ -1,7 +1,8 @@
 // The topology test of a site: which of the intersections near it may share a vertex.
+ghost use Prim.Native.Nat.{_<_};
 ghost use mathlib.Core.Path.{_≡_};
 ghost use Rattle.topology.specs.Walk.{lowBit, componentsOf};
-ghost use Rattle.topology.specs.Flat.{twoEdges, collapses, isFlat};
+ghost use Rattle.topology.specs.Flat.{twoEdges, collapses, pairsCollapse, isFlat};
 ghost use Rattle.topology.specs.Topology.{singles, clustersOf, topologyOf, caseNumber};
 ghost use mathlib.Core.List.{[], _∷_};
 use samples::Sample;
@@ -106,6 +107,34 @@ fn would_collapse(a: f64, b: f64, c: f64, d: f64, h: f64) -> bool
     near_a || near_b
 }
 
+// The same for the ends of edges with and without an intersection near the site: where one of the four is missing, they say nothing.
+fn pairs_collapse(ends: [Sample; 14], off: TwoEdges, on: TwoEdges, h: f64) -> bool
+    requires { ⌜ (off .first < 14) × (off .second < 14) × (on .first < 14) × (on .second < 14) ⌝ }
+    ensures { λ r. ⌜ r ≡ pairsCollapse ends h off on ⌝ }
+{
+    let a = off.first;
+    let b = off.second;
+    let c = on.first;
+    let d = on.second;
+    let a_end = ends[a];
+    let b_end = ends[b];
+    let c_end = ends[c];
+    let d_end = ends[d];
+    let Sample::Value(a_val) = a_end else {
+        return false;
+    };
+    let Sample::Value(b_val) = b_end else {
+        return false;
+    };
+    let Sample::Value(c_val) = c_end else {
+        return false;
+    };
+    let Sample::Value(d_val) = d_end else {
+        return false;
+    };
+    would_collapse(a_val, b_val, c_val, d_val, h)
+}
+
 // Whether a surface connected around the site, with near intersections on the edges of the mask, would be flattened.
 fn is_flat_hole(surface_comp: u16, ends: [Sample; 14], h: f64) -> bool
     ensures { λ r. ⌜ r ≡ isFlat «surface_comp» ends h ⌝ }
@@ -124,27 +153,7 @@ fn is_flat_hole(surface_comp: u16, ends: [Sample; 14], h: f64) -> bool
         }
         let off = two_edge_indices(edge_mask);
         let on = two_edge_indices(opposite_mask);
-        let a = off.first;
-        let b = off.second;
-        let c = on.first;
-        let d = on.second;
-        let a_end = ends[a];
-        let b_end = ends[b];
-        let c_end = ends[c];
-        let d_end = ends[d];
-        let Sample::Value(a_val) = a_end else {
-            continue 'rows;
-        };
-        let Sample::Value(b_val) = b_end else {
-            continue 'rows;
-        };
-        let Sample::Value(c_val) = c_end else {
-            continue 'rows;
-        };
-        let Sample::Value(d_val) = d_end else {
-            continue 'rows;
-        };
-        if would_collapse(a_val, b_val, c_val, d_val, h) {
+        if pairs_collapse(ends, off, on, h) {
             return true;
         }
     }

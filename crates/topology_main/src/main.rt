@@ -63,21 +63,8 @@ fn after(from: u64) -> u64 {
     x
 }
 
-fn show_mask(mask: u16) {
-    io::write_all(1, b" ");
-    io::print_hex(1, wide(mask), 4);
-}
-
-fn show_clusters(count: usize, masks: [u16; 14]) {
-    for i in 0..14 {
-        if i < count {
-            show_mask(masks[i]);
-        }
-    }
-}
-
 fn show(mask: u16, ends: [Sample; 14]) {
-    let r = topology::test_topology(mask, true, ends, samples::threshold());
+    let r = topology::test_topology(mask, true, ends, samples::INSIDE);
     let case = r.case;
     let clusters = r.clusters;
     let count = clusters.count;
@@ -87,7 +74,7 @@ fn show(mask: u16, ends: [Sample; 14]) {
     io::print_decimal(1, topology::case_number(case) as u64);
     io::write_all(1, b" ");
     io::print_decimal(1, count as u64);
-    show_clusters(count, masks);
+    streams::mask_words(count, masks);
     io::write_all(1, b"\n");
 }
 

@@ -1,4 +1,4 @@
--- A whole number less the origin's, accepted within -10,000 to 10,000, ends included (document 02, request 4). Assumes nothing.
+-- A whole number less the origin's, accepted within -10,000 to 10,000, ends included (docs/SCOPE.md, S12.1 and S12.3). Assumes nothing.
 use mathlib.Core.Bool.{Bool, false, cond}
 use mathlib.Core.Option.{Option, none, some}
 use lib.Dec.{leb}

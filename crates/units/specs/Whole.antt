@@ -1,4 +1,4 @@
--- The whole number nearest to a float, a tie to the even one (document 02, request 4). Assumes nothing.
+-- The whole number nearest to a float, a tie to the even one (docs/SCOPE.md, S12.1). Assumes nothing.
 use mathlib.Core.Path.{_≡_}
 use mathlib.Core.Option.{Option, none, some}
 use Prim.Native.Nat.{ℕ, _+_, _*_, _%_, _≤_}

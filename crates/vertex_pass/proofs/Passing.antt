@@ -1,87 +1,23 @@
 -- Candidates met one after the other, and what a flag does to one of them. Assumes nothing.
 use mathlib.Core.Path.{_≡_, refl, sym, ap, _∙_}
-use mathlib.Core.Bool.{Bool, true, false, _&&_, cond, and-false}
-use mathlib.Core.List.{List, [], _∷_, _++_, append-assoc}
-use Prim.Native.Nat.{ℕ, suc, _+_, _-_, _≤_, _<_}
+use mathlib.Core.Bool.{Bool, false, _&&_, and-false}
+use mathlib.Core.List.{List, [], _++_}
+use Prim.Native.Nat.{ℕ, _+_, _-_, _≤_, _<_}
 use native.Mathlib.Omega.{arith}
 use lib.Dec.{eqb, ltb}
 use borrow.Author.Tests.{lt-ltb, le-ltb}
 use lib.ListN.{length, getD, length-append, List·getD-eq-default}
 use lib.Ieee.{Float}
-use Rattle.laws.specs.Couples.{Pair}
 use Rattle.laws.specs.Ranges.{each}
 use Rattle.laws.proofs.Ranges.{each-none, each-more, each-add}
 use Rattle.lattice.specs.declared.Sides.{Sides}
 use Rattle.points.specs.declared.Frame.{Frame}
-use Rattle.stages.specs.Vertices.{Vertex, several, apart}
-use Rattle.stages.specs.Splits.{endOf, place, splitCount, splits}
+use Rattle.stages.specs.Vertices.{Vertex}
+use Rattle.stages.specs.Splits.{placeBy, splitBy}
+use Rattle.stages.proofs.Splits.{place-append, split-append, split-le}
 use Rattle.site_vertices.proofs.Appending.{appended-none, appended-more, appended-same, appended-lengths, each-longer}
 use Rattle.vertex_pass.specs.declared.Pass.{Pass}
-use Rattle.vertex_pass.specs.Inner.Passing.{placeBy, splitBy, flagOf, Passed, Ahead}
-
--- ---- flags
-
-place-append : (q : ℕ → Bool) (i : ℕ) (xs ys : List Vertex) → placeBy q i (xs ++ ys) ≡ placeBy q i xs ++ placeBy q (i + length xs) ys
-unfolding placeBy
-place-append q i [] ys = let e : i ≡ i + 0 = omega arith in ap (λ (j : ℕ). placeBy q j ys) e
-place-append q i (x ∷ xs) ys =
-    let e : suc i + length xs ≡ i + suc (length xs) = omega arith in
-    let c = cond (several x && q i) (apart 0 x) (x ∷ []) in
-    ap (λ (l : List Vertex). c ++ l) (place-append q (suc i) xs ys ∙ ap (λ (j : ℕ). placeBy q (suc i) xs ++ placeBy q j ys) e)
-    ∙ sym (append-assoc c (placeBy q (suc i) xs) (placeBy q (i + suc (length xs)) ys))
-
-split-append : (q : ℕ → Bool) (i : ℕ) (xs ys : List Vertex) → splitBy q i (xs ++ ys) ≡ splitBy q i xs + splitBy q (i + length xs) ys
-unfolding splitBy
-split-append q i [] ys = let e : i ≡ i + 0 = omega arith in omega (arith, ap (λ (j : ℕ). splitBy q j ys) e)
-split-append q i (x ∷ xs) ys =
-    let e : suc i + length xs ≡ i + suc (length xs) = omega arith in
-    let g : splitBy q (suc i + length xs) ys ≡ splitBy q (i + suc (length xs)) ys = ap (λ (j : ℕ). splitBy q j ys) e in
-    omega (arith, split-append q (suc i) xs ys, g)
-
-pub split-le : (q : ℕ → Bool) (i : ℕ) (xs : List Vertex) → splitBy q i xs ≤ length xs
-unfolding splitBy
-split-le q i [] = omega arith
-split-le q i (x ∷ xs) = omega (arith, split-le q (suc i) xs, go (several x && q i))
-  where
-    go : (c : Bool) → cond c 1 0 ≤ 1
-    go true = omega arith
-    go false = omega arith
-
--- THE SPLIT IS BY THE FLAGS OF THE PAIRS' ENDS
-pub place-pairs : (ps : List Pair) (i : ℕ) (vs : List Vertex) → place ps i vs ≡ placeBy (endOf ps) i vs
-unfolding place placeBy splits
-place-pairs ps i [] = refl
-place-pairs ps i (x ∷ vs) = ap (λ (l : List Vertex). cond (several x && endOf ps i) (apart 0 x) (x ∷ []) ++ l) (place-pairs ps (suc i) vs)
-
-pub split-pairs : (ps : List Pair) (i : ℕ) (vs : List Vertex) → splitCount ps i vs ≡ splitBy (endOf ps) i vs
-unfolding splitCount splitBy splits
-split-pairs ps i [] = refl
-split-pairs ps i (x ∷ vs) = ap (λ (k : ℕ). cond (several x && endOf ps i) 1 0 + k) (split-pairs ps (suc i) vs)
-
--- flags that are the same for the candidates do the same
-pub place-same : (q r : ℕ → Bool) (i : ℕ) (vs : List Vertex) → ((v : ℕ) → v < i + length vs → q v ≡ r v) → placeBy q i vs ≡ placeBy r i vs
-unfolding placeBy
-place-same q r i [] h = refl
-place-same q r i (x ∷ vs) h =
-    let a : q i ≡ r i = h i (omega arith) in
-    let b : placeBy q (suc i) vs ≡ placeBy r (suc i) vs = place-same q r (suc i) vs (λ v l. h v (omega arith)) in
-    λ j. cond (several x && a j) (apart 0 x) (x ∷ []) ++ b j
-
-pub split-same : (q r : ℕ → Bool) (i : ℕ) (vs : List Vertex) → ((v : ℕ) → v < i + length vs → q v ≡ r v) → splitBy q i vs ≡ splitBy r i vs
-unfolding splitBy
-split-same q r i [] h = refl
-split-same q r i (x ∷ vs) h =
-    let a : q i ≡ r i = h i (omega arith) in
-    let b : splitBy q (suc i) vs ≡ splitBy r (suc i) vs = split-same q r (suc i) vs (λ v l. h v (omega arith)) in
-    λ j. cond (several x && a j) 1 0 + b j
-
--- without a flag nothing is split
-pub place-never : (q : ℕ → Bool) (i : ℕ) (vs : List Vertex) → ((v : ℕ) → q v ≡ false) → placeBy q i vs ≡ vs
-unfolding placeBy
-place-never q i [] h = refl
-place-never q i (x ∷ vs) h =
-    let a : several x && q i ≡ false = ap (λ (c : Bool). several x && c) (h i) ∙ and-false (several x) in
-    λ j. cond (a j) (apart 0 x) (x ∷ []) ++ place-never q (suc i) vs h j
+use Rattle.vertex_pass.specs.Inner.Passing.{flagOf, Passed, Ahead}
 
 -- ---- the test of one candidate
 

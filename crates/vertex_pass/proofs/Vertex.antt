@@ -22,15 +22,16 @@ use Rattle.stages.specs.Boxes.{owned}
 use Rattle.stages.specs.Vertices.{Vertex, apart, filled, fresh, held, several}
 use Rattle.stages.specs.Meshes.{bookOf, positionsOf}
 use Rattle.stages.specs.Samples.{edgesOf, pointsOf, positionAt}
-use Rattle.stages.specs.Inner.Steps.{number, paint}
+use Rattle.stages.specs.Inner.Steps.{number, paint, paintFrom}
 use Rattle.stages.proofs.Table.{paint-length}
 use Rattle.site_vertices.specs.Inner.Drawing.{joinTo, claimTo}
-use Rattle.site_vertices.specs.Inner.Appending.{Appended, Space, paintFrom, pointedOf, singlesOf}
+use Rattle.stages.specs.Splits.{placeBy, splitBy}
+use Rattle.site_vertices.specs.Inner.Appending.{Appended, Space, pointedOf, singlesOf}
 use Rattle.site_vertices.proofs.Clusters.{cluster-points, cluster-painted}
 use Rattle.site_vertices.proofs.Points.{points-kept, points-long}
 use Rattle.site_vertices.proofs.Appending.{appended-same, paint-singles, singles-are}
 use Rattle.vertex_pass.specs.declared.Pass.{Pass}
-use Rattle.vertex_pass.specs.Inner.Passing.{Ahead, Passed, candidateOf, placeBy, splitBy}
+use Rattle.vertex_pass.specs.Inner.Passing.{Ahead, Passed, candidateOf}
 use Rattle.vertex_pass.proofs.Passing.{passed-none, passed-same}
 
 -- ---- numbers written over other numbers

@@ -15,9 +15,6 @@ ghost use Rattle.stages.specs.Samples.{boxOf};
 ghost use Rattle.site_vertices.specs.Inner.Drawing.{Drawable};
 ghost use Rattle.vertex_pass.specs.Inner.Passing.{flagOf, candidateOf, Passed, Ahead, start, casesTo, Masked, Drawn};
 
-// An edge without a vertex.
-pub const NONE: u32 = 0xFFFF_FFFF;
-
 // Where a pass is: the next vertex, the next candidate, and the clusters split so far.
 pub struct Pass {
     pub next: usize,
@@ -197,7 +194,7 @@ fn empty_table(table: &mut [u32])
 {
     let mut i = 0;
     while i < table.len() {
-        table[i] = NONE;
+        table[i] = march::NONE;
         i += 1;
     }
 }

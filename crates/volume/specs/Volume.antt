@@ -1,4 +1,4 @@
--- Six times the volume that a triangle list encloses, in whole units, signed and exact (document 02, request 4). Assumes nothing.
+-- Six times the volume that a triangle list encloses, in whole units, signed and exact (docs/SCOPE.md, S12). Assumes nothing.
 use mathlib.Core.Bool.{Bool, false, _&&_, cond}
 use mathlib.Core.List.{List}
 use mathlib.Core.Option.{Option}

@@ -19,7 +19,7 @@ use Rattle.laws.proofs.Sizes.{rd}
 use Rattle.laws.proofs.Written.{written-more}
 use Rattle.lines.specs.Numbers.{dec}
 use Rattle.lines.specs.Lines.{decLine}
-use Rattle.lines.specs.Answer.{refusalText}
+use Rattle.lines.specs.Status.{refusalText}
 use Rattle.lines.proofs.Lines.{dec-line-room}
 use Rattle.lines.proofs.Printing.{refusal-length}
 use Rattle.decimals.specs.Decimals.{signOf, signedDec, decimal}

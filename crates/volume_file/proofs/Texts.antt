@@ -8,15 +8,15 @@ use native.Mathlib.Omega.{arith}
 use borrow.Author.Tests.{eq-eqb, ne-eqb, le-ltb}
 use lib.Ieee.{Float, lt}
 use lib.ListN.{length, take}
-use Rattle.laws.specs.Written.{Written, Within}
+use Rattle.laws.specs.Written.{Written}
 use Rattle.laws.proofs.Ranges.{lt-or}
-use Rattle.lines.specs.Answer.{refusalText}
+use Rattle.lines.specs.Status.{refusalText}
 use Rattle.lines.proofs.Printing.{refusal-length}
 use Rattle.stages.specs.Meshes.{meshOf}
 use Rattle.build.specs.Answer.{Order, status, orderBox, orderVertices, orderPositions, orderTriangles, Lists, lengthsOf}
-use Rattle.count.specs.declared.Built.{Built}
-use Rattle.count.specs.Count.{workSpace, BuiltOf}
-use Rattle.count.proofs.Told.{told-unique, told-at-unique, told-within, Meant, meant, told-refused}
+use Rattle.file_build.specs.declared.Built.{Built}
+use Rattle.file_build.specs.Asked.{workSpace, BuiltOf}
+use Rattle.file_build.proofs.Told.{told-unique, told-at-unique, told-at, Meant, meant, told-refused}
 use Rattle.volume.specs.declared.Whole.{Whole}
 use Rattle.volume.specs.declared.Volume.{Volume}
 use Rattle.volume.specs.Volume.{scaleOk, volumeOf}
@@ -53,9 +53,9 @@ module _ (d : ℕ) (c : Whole) (o : Order) where
 -- ---- the ways out
 
 module _ (d : ℕ) (c : Whole) (s : List ℕ) (l l′ : Lists) (r : Built) (w : lengthsOf l ≡ workSpace) (b : BuiltOf s l l′ r) where
-  pub measured-refused : (r .answer .status ≡ 0 → ⊥) → (m m′ : List ℕ) (k : ℕ) → length m ≡ 161 → Written m 0 (refusalText (r .answer .status)) m′ k → MeasuredAt d c s m m′ k × Within k m′
+  pub measured-refused : (r .answer .status ≡ 0 → ⊥) → (m m′ : List ℕ) (k : ℕ) → length m ≡ 161 → Written m 0 (refusalText (r .answer .status)) m′ k → MeasuredAt d c s m m′ k
   measured-refused z m m′ k h p =
-      told-within (record { text = _; told = told-refused (measureOf d c) s l l′ r w (text-refused d c) b z; put = p }) (omega (arith, refusal-length (r .answer .status)))
+      told-at (told-refused (measureOf d c) s l l′ r w (text-refused d c) b z) p (omega (arith, refusal-length (r .answer .status)))
 
   module _ (z : r .answer .status ≡ 0) where
     pub mesh : Meant (measureOf d c) s l′ (r .answer)
@@ -74,9 +74,9 @@ module _ (d : ℕ) (c : Whole) (s : List ℕ) (l l′ : Lists) (r : Built) (w : 
 
     pub measured-done : (x : Float) (v : Volume) (m m′ : List ℕ) (k : ℕ) → x ≡ scaleOf d
         → v ≡ volumeOf (take (r .answer .vertices * 3) (l′ .positions)) (take (r .answer .triangles * 3) (l′ .triangles)) x c
-        → length m ≡ 161 → Written m 0 (answerText d (r .answer .triangles) v) m′ k → MeasuredAt d c s m m′ k × Within k m′
+        → length m ≡ 161 → Written m 0 (answerText d (r .answer .triangles) v) m′ k → MeasuredAt d c s m m′ k
     measured-done x v m m′ k e g h p =
-        told-within (record { text = answerText d (r .answer .triangles) v; told = subst (Measured d c s) (found-is x v e g) (mesh .told); put = p })
+        told-at (subst (Measured d c s) (found-is x v e g) (mesh .told)) p
         (omega (arith, answer-room d (r .answer .triangles) v (found-few x v e g)))
 
 -- ---- ANY TWO CONFORMING ANSWERS ARE EQUAL

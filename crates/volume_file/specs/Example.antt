@@ -1,4 +1,4 @@
--- What is printed of document 01's example with three digits and the whole origin 0, as the oracle has it (tools/oracle). Assumes nothing.
+-- What is printed of the example (docs/SCOPE.md, S10.6) with three digits and the whole origin 0, as the oracle has it (tools/oracle). Assumes nothing.
 use mathlib.Core.List.{List, [], _∷_}
 use Prim.Native.Nat.{ℕ}
 

@@ -8,12 +8,12 @@ use lib.ListN.{length}
 use lib.Ieee.{Float, binary64, fin, ofInt}
 use Rattle.laws.specs.Ints.{sizeOf}
 use Rattle.lines.specs.Lines.{decLine, lineOf}
-use Rattle.lines.specs.Answer as text
-use Rattle.lines.specs.Answer.{refusalText}
+use Rattle.lines.specs.Status as text
+use Rattle.lines.specs.Status.{refusalText}
 use Rattle.stages.specs.Meshes.{meshOf}
 use Rattle.decimals.specs.Decimals.{signOf, signedDec, decimal}
 use Rattle.build.specs.Answer.{Order, status, orderBox, orderVertices, orderPositions, orderTriangles}
-use Rattle.count.specs.Told.{Told, ToldAt}
+use Rattle.file_build.specs.Told.{Told, ToldAt}
 use Rattle.volume.specs.declared.Whole.{Whole}
 use Rattle.volume.specs.declared.Volume.{Volume}
 use Rattle.volume.specs.Volume.{volumeOf}

@@ -6,7 +6,7 @@ use volume::Whole;
 ghost use mathlib.Core.Path.{_≡_};
 ghost use Prim.Native.Nat.{_+_, _≤_, _<_};
 ghost use lib.ListN.{length};
-ghost use Rattle.laws.specs.Written.{Written, Within};
+ghost use Rattle.laws.specs.Written.{Written};
 ghost use Rattle.volume_file.specs.Words.{WordsOf};
 ghost use Rattle.volume_file.specs.Text.{sixLine, volumeLine, volumeText, answerText, scaleOf, MeasuredAt};
 
@@ -82,7 +82,7 @@ fn put_lines(out: &mut [u8], at: usize, d: usize, triangles: u64, z: i64) -> usi
     ensures { λ r. ⌜ Written (now (out .entry)) at (volumeText d triangles z) (now (out .exit)) r ⌝ }
 {
     let n = units::size_of(z) % 6;
-    let a = lines::print_refusal(out, at, 0);
+    let a = lines::put_status(out, at, 0);
     let b = lines::put_line(out, a, b"triangles=", triangles);
     let c = put_six(out, b, z);
     let e = put_volume(out, c, d, z);
@@ -98,7 +98,7 @@ fn print(out: &mut [u8], d: usize, triangles: u64, v: Volume) -> usize
     if status == 0 {
         return put_lines(out, 0, d, triangles, v.six);
     }
-    lines::print_refusal(out, 0, status as u64)
+    lines::put_status(out, 0, status as u64)
 }
 
 // ---- the work
@@ -135,15 +135,14 @@ fn scale_of(d: usize) -> f64
 // corner is too far from the origin, 12 where there are more than 6 digits. What is returned is its length; the rest of `out` stays as it was.
 pub fn volume_text(input: &[u8], digits: usize, origin: Whole, out: &mut [u8; 161]) -> usize
     ensures { λ r. ⌜ MeasuredAt digits origin (now (input .entry)) (now (out .entry)) (now (out .exit)) r ⌝ }
-    ensures { λ r. ⌜ Within r (now (out .exit)) ⌝ }
 {
-    let mut masks = [0u16; 216];
+    let mut masks = [0u16; count_file::SITES];
     let mut table = [0u32; 1512];
     let mut positions = [0.0; 6804];
     let mut book = [0u32; 9072];
     let mut triangles = [0u32; 7776];
     let mut edges = [0u32; 23328];
-    let built = count::build_file(
+    let built = file_build::build_file(
         input,
         &mut masks,
         &mut table,
@@ -155,7 +154,7 @@ pub fn volume_text(input: &[u8], digits: usize, origin: Whole, out: &mut [u8; 16
     let answer = built.answer;
     let status = answer.status;
     if status != 0 {
-        return lines::print_refusal(out, 0, status as u64);
+        return lines::put_status(out, 0, status as u64);
     }
     let v = answer.vertices * 3;
     let t = answer.triangles * 3;

@@ -21,9 +21,8 @@ fn words() -> Words {
     volume_file::read_words(&digits[..d], &x[..a], &y[..b], &z[..c])
 }
 
-// A count file has at most 4,321 bytes. So what is longer than the buffer is none, and what is left of it in the buffer is none either.
 fn answer(digits: usize, origin: Whole) {
-    let mut space = [0u8; 8192];
+    let mut space = [0u8; count_file::ENOUGH];
     let taken = streams::read(b"usage: volume_main DIGITS X Y Z [FILE]\n", 5, &mut space);
     if taken.ok {
         let n = taken.length;

@@ -1,6 +1,6 @@
 -- `api::counts_of` meets its contract. Assumes nothing.
 use mathlib.Core.Path.{refl}
-use Rattle.api.specs.Calls.{countsOf}
+use Rattle.build.specs.Answer.{countsOf}
 use Rattle.api.proofs.counts_of.Statement.{statement}
 use Rattle.api.proofs.counts_of.Tie as tie
 

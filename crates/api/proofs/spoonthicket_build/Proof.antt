@@ -1,13 +1,18 @@
 -- `api::spoonthicket_build` meets its contract. Assumes nothing.
-use mathlib.Core.Path.{_≡_, ap, _∙_}
-use lib.ListN.{length}
+use mathlib.Core.Path.{_≡_, refl, subst}
+use mathlib.Core.List.{List}
+use Prim.Native.Nat.{ℕ}
+use lib.Ieee.{Float}
+use Rattle.lattice.specs.declared.Sides.{Sides}
 use Rattle.points.specs.declared.Frame.{Frame}
 use Rattle.build.specs.declared.Answer.{Answer}
-use Rattle.build.specs.Answer.{Order, order, answerOf, masksAfter, tableAfter, positionsAfter, bookAfter, trianglesAfter, edgesAfter}
-use Rattle.api.specs.Calls.{countsOf}
+use Rattle.build.specs.Answer.{Lists, BuildIn}
 use borrow.Author.Needs.{needs}
 use Rattle.api.proofs.spoonthicket_build.Statement.{statement}
 use Rattle.api.proofs.spoonthicket_build.Tie as tie
+
+framed : {n : Sides} {method R : ℕ} {f g : Frame} {S : List Float} {l l′ : Lists} {a : Answer} → f ≡ g → BuildIn n method R f S l l′ a → BuildIn n method R g S l l′ a
+framed {n} {method} {R} {S = S} {l} {l′} {a} e h = subst (λ (x : Frame). BuildIn n method R x S l l′ a) e h
 
 frame-at-requires : tie.Need-frame-at-requires
 frame-at-requires c κs = search needs
@@ -39,13 +44,8 @@ same-length-6 c = search needs
 returns : tie.Need-returns
 returns c =
     let b = c .before .before .before .before .before .before .before .before .before .before .before .before .before in
-    let y = b .build .ensures in
     let f = b .before .before .before .before .before .before .before in
-    let a = f .before .before .before .before .before .before .before .before .args in
-    let o : Frame → Order = λ f. order (record { nu = a .nu; nv = a .nv; nw = a .nw }) (a .method) (a .rounds) f (a .samples .now) (length (a .masks .now)) (length (a .table .now)) (length (a .vertices .now)) (length (a .book .now)) (length (a .triangles .now)) (length (a .edges .now)) in
-    let e = f .frame-at .ensures in
-    let z = y .0 ∙ ap (λ (f : Frame). answerOf (o f)) e in
-    (ap (λ (x : Answer). x .status) z, (c .counts-of .ensures ∙ ap countsOf z, (y .1 .0 ∙ ap (λ (f : Frame). masksAfter (o f) (a .masks .now)) e, (y .1 .1 .0 ∙ ap (λ (f : Frame). tableAfter (o f) (a .table .now)) e, (y .1 .1 .1 .0 ∙ ap (λ (f : Frame). positionsAfter (o f) (a .vertices .now)) e, (y .1 .1 .1 .1 .0 ∙ ap (λ (f : Frame). bookAfter (o f) (a .book .now)) e, (y .1 .1 .1 .1 .1 .0 ∙ ap (λ (f : Frame). trianglesAfter (o f) (a .triangles .now)) e, y .1 .1 .1 .1 .1 .1 ∙ ap (λ (f : Frame). edgesAfter (o f) (a .edges .now)) e)))))))
+    record { answer = b .build .result; is = framed (f .frame-at .ensures) (b .build .ensures); status = refl; counts = c .counts-of .ensures }
 
 pub spoonthicket-build-spec : {M : Type 1} → statement M
 spoonthicket-build-spec =

@@ -1,5 +1,5 @@
 -- `api::spoonthicket_topology` meets its contract. Assumes nothing.
-use mathlib.Core.Path.{_≡_, ap, _∙_}
+use mathlib.Core.Path.{ap, _∙_}
 use mathlib.Core.List.{List}
 use lib.Dec.{eqb}
 use Rattle.samples.specs.Sides.{base}
@@ -24,7 +24,7 @@ returns c =
     let a = c .before .before .before .before .args in
     let known = ap (λ (l : List Sample). topologyOf (a .mask) (eqb (a .method) 1) l base) (c .before .before .before .ends-at .ensures) in
     let found = c .before .before .test-topology .ensures ∙ known in
-    (c .case-number .ensures ∙ ap (λ (r : TopologyResult). caseNumber (r .case)) found, ap (λ (r : TopologyResult). r .clusters .masks) found)
+    record { case = c .case-number .ensures ∙ ap (λ (r : TopologyResult). caseNumber (r .case)) found; clusters = ap (λ (r : TopologyResult). r .clusters .masks) found }
 
 pub spoonthicket-topology-spec : {M : Type 1} → statement M
 spoonthicket-topology-spec =

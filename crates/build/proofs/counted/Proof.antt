@@ -1,5 +1,5 @@
 -- `build::counted` meets its contract. Assumes nothing.
-use Rattle.build.specs.Standing.{madeAnswer}
+use Rattle.build.specs.Inner.Grants.{madeAnswer}
 use mathlib.Core.Path.{refl}
 use borrow.Author.Needs.{needs}
 use Rattle.build.proofs.counted.Statement.{statement}

@@ -1,13 +1,7 @@
 -- `count::count_text` meets its contract. Assumes nothing.
 use borrow.Author.Needs.{needs}
-use mathlib.Core.Path.{_≡_, refl}
-use mathlib.Core.List.{List}
-use Prim.Native.Nat.{ℕ}
-use lib.ListN.{length}
-use Rattle.laws.specs.Written.{Within}
-use Rattle.count.specs.Count.{Answered}
-use Rattle.count.proofs.Building.{built-counted}
-use Rattle.count.proofs.Status.{answered-within}
+use mathlib.Core.Path.{refl}
+use Rattle.count.proofs.Shown.{built-counted, answered-at}
 use Rattle.count.proofs.count_text.Statement.{statement}
 use Rattle.count.proofs.count_text.Tie as tie
 
@@ -35,14 +29,10 @@ build-file-requires c κs = search needs
 print-requires : tie.Need-print-requires
 print-requires c κs = search needs
 
--- the two parts of the promise, from the first
-both : (s l l′ : List ℕ) (r : ℕ) → length l ≡ 402 → Answered s l l′ r → Answered s l l′ r × Within r l′
-both s l l′ r h a = (a, answered-within h a)
-
 returns : tie.Need-returns
 returns c =
     let b = c .before .before .before .before .before .before .before .before .before .before in
-    both _ _ _ _ (c .before .print-arg .given .0 .1) (record { text = _; counted = built-counted refl (b .build-file .ensures); put = c .print .ensures })
+    answered-at (c .before .print-arg .given .0 .1) (built-counted refl (b .build-file .ensures)) (c .print .ensures)
 
 pub count-text-spec : {M : Type 1} → statement M
 count-text-spec =

@@ -1,6 +1,6 @@
 -- `count::counts_of` meets its contract. Assumes nothing.
 use mathlib.Core.Path.{refl}
-use Rattle.count.specs.Count.{countsOf}
+use Rattle.build.specs.Answer.{countsOf}
 use Rattle.count.proofs.counts_of.Statement.{statement}
 use Rattle.count.proofs.counts_of.Tie as tie
 

@@ -5,8 +5,8 @@ use Rattle.count.specs.Count.{printed}
 use Rattle.count.proofs.print.Statement.{statement}
 use Rattle.count.proofs.print.Tie as tie
 
-print-refusal-requires : tie.Need-print-refusal-requires
-print-refusal-requires c κs = search needs
+put-status-requires : tie.Need-put-status-requires
+put-status-requires c κs = search needs
 
 same-length : tie.Need-same-length
 same-length c = search needs
@@ -15,7 +15,7 @@ returns : tie.Need-returns
 unfolding printed
 returns c =
     let r = c .before .before in
-    rw (ne-eqb _ 0 (r .before .before .if1 .taken)) (r .print-refusal .ensures)
+    rw (ne-eqb _ 0 (r .before .before .if1 .taken)) (r .put-status .ensures)
 
 counts-of-requires : tie.Need-counts-of-requires
 counts-of-requires c κs = search needs
@@ -37,7 +37,7 @@ pub print-spec : {M : Type 1} → statement M
 print-spec =
     tie.close
     (tie.spec
-    print-refusal-requires
+    put-status-requires
     same-length
     returns
     counts-of-requires

@@ -47,7 +47,7 @@ returns c =
     let first = c .before .before .before .before .before .before .before .prepare in
     let many = c .before .before .before .before .least in
     let call = c .before .before .flag-sides in
-    (call .ensures .0, found-ends t r (s .args .a) (s .pre .0) (s .args .m) (s .args .m) (first .last .1 .0) (first .ensures) (first .kept .1 .0) (many .result) (many .ensures) (call .last .1 .0) (call .ensures .1))
+    record { found = call .ensures .0; flags = found-ends t r (s .args .a) (s .pre .0) (s .args .m) (s .args .m) (first .last .1 .0) (first .ensures) (first .kept .1 .0) (many .result) (many .ensures) (call .last .1 .0) (call .ensures .1) }
 
 pub flag-ends-spec : {M : Type 1} → statement M
 flag-ends-spec =

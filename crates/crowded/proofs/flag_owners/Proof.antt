@@ -47,10 +47,11 @@ returns c =
     let first = c .before .before .before .before .before .before .before .prepare in
     let many = c .before .before .before .before .least in
     let call = c .before .before .flag-corners in
-    let b = s .args .book .now in (
-      call .ensures .0 ∙ owners-found t b (s .pre .0 .whole) _ (λ k h. fits-under (s .args .m) (s .args .a) r _ (s .pre .2 k h) (s .pre .1 k h .1)),
-      found-owners t r (s .args .a) (s .pre .0) (s .args .v) (s .args .m) (first .last .1 .0) (first .ensures) (first .kept .1 .0) (many .result) (many .ensures) (call .last .1 .1 .0) b (call .ensures .1),
-    )
+    let b = s .args .book .now in
+    record {
+      found = call .ensures .0 ∙ owners-found t b (s .pre .0 .whole) _ (λ k h. fits-under (s .args .m) (s .args .a) r _ (s .pre .2 k h) (s .pre .1 k h .1));
+      flags = found-owners t r (s .args .a) (s .pre .0) (s .args .v) (s .args .m) (first .last .1 .0) (first .ensures) (first .kept .1 .0) (many .result) (many .ensures) (call .last .1 .1 .0) b (call .ensures .1);
+    }
 
 pub flag-owners-spec : {M : Type 1} → statement M
 flag-owners-spec =

@@ -23,11 +23,11 @@ array-read-show-sites c = search needs
 
 show-sites-requires : tie.Need-show-sites-requires
 show-sites-requires c κs =
-    let n = c .before .before in
+    let n = c .before .before .before in
     rw (n .sides-of .ensures) (n .before .before .before .before .before .before .before .pre)
 
 slice-aggregate-show-lists : tie.Need-slice-aggregate-show-lists
-slice-aggregate-show-lists c = sym (length-take-le _ _ (omega (arith, c .before .before .least2 .ensures)))
+slice-aggregate-show-lists c = sym (length-take-le _ _ (omega (arith, c .before .before .before .least2 .ensures)))
 
 show-lists-requires : tie.Need-show-lists-requires
 show-lists-requires c κs = search needs

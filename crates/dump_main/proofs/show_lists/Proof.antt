@@ -38,17 +38,23 @@ slice-aggregate-show-positions c = sym (length-take-le _ _ (c .before .before .b
 show-positions-requires : tie.Need-show-positions-requires
 show-positions-requires c κs = search needs
 
-slice-aggregate-show-book : tie.Need-slice-aggregate-show-book
-slice-aggregate-show-book c = sym (length-take-le _ _ (c .before .before .before .before .before .before .least3 .ensures .1))
+slice-aggregate-show-rows : tie.Need-slice-aggregate-show-rows
+slice-aggregate-show-rows c = search needs
 
-show-book-requires : tie.Need-show-book-requires
-show-book-requires c κs = search needs
+slice-aggregate-show-rows-2 : tie.Need-slice-aggregate-show-rows-2
+slice-aggregate-show-rows-2 c = sym (length-take-le _ _ (c .before .before .before .before .before .before .before .least3 .ensures .1))
 
-slice-aggregate-show-triangles : tie.Need-slice-aggregate-show-triangles
-slice-aggregate-show-triangles c = sym (length-take-le _ _ (c .before .before .before .before .before .before .least5 .ensures .1))
+show-rows-requires : tie.Need-show-rows-requires
+show-rows-requires c κs = search needs
 
-show-triangles-requires : tie.Need-show-triangles-requires
-show-triangles-requires c κs = search needs
+slice-aggregate-show-rows-3 : tie.Need-slice-aggregate-show-rows-3
+slice-aggregate-show-rows-3 c = search needs
+
+slice-aggregate-show-rows-4 : tie.Need-slice-aggregate-show-rows-4
+slice-aggregate-show-rows-4 c = sym (length-take-le _ _ (c .before .before .before .before .before .before .before .before .least5 .ensures .1))
+
+show-rows-requires-2 : tie.Need-show-rows-requires-2
+show-rows-requires-2 c κs = search needs
 
 returns : tie.Need-returns
 returns c = search needs
@@ -68,8 +74,10 @@ show-lists-spec =
     show-edges-requires
     slice-aggregate-show-positions
     show-positions-requires
-    slice-aggregate-show-book
-    show-book-requires
-    slice-aggregate-show-triangles
-    show-triangles-requires
+    slice-aggregate-show-rows
+    slice-aggregate-show-rows-2
+    show-rows-requires
+    slice-aggregate-show-rows-3
+    slice-aggregate-show-rows-4
+    show-rows-requires-2
     returns)

@@ -4,7 +4,7 @@ use native.Mathlib.Nat.{add-zero, add-assoc}
 use native.Mathlib.Omega.{arith}
 use mathlib.Core.Path.{_≡_, sym, _∙_}
 use lib.ListN.{length, drop}
-use Rattle.lines.specs.Readers.{starts}
+use Rattle.lines.specs.Inner.Readers.{starts}
 use Rattle.lines.proofs.Keys.{starts-none, starts-end, starts-same, starts-differ}
 use Rattle.lines.proofs.has.Statement.{statement}
 use Rattle.lines.proofs.has.Tie as tie

@@ -1,7 +1,7 @@
 -- `lines::hex_value` meets its contract. Assumes nothing.
 use borrow.Author.Needs.{needs}
 use borrow.Author.Tests.{lt-ltb, le-ltb}
-use Rattle.lines.specs.Readers.{hexVal}
+use Rattle.lines.specs.Inner.Readers.{hexVal}
 use Rattle.lines.proofs.hex_value.Statement.{statement}
 use Rattle.lines.proofs.hex_value.Tie as tie
 

@@ -5,7 +5,6 @@ use Rattle.laws.proofs.Written.{written-more, written-length}
 use Rattle.lines.proofs.Lines.{dec-line-length}
 use Rattle.lines.proofs.put_line.Statement.{statement}
 use Rattle.lines.proofs.put_line.Tie as tie
-use Rattle.lines.proofs.put_dec.Reads as put-dec-reads
 
 put-text-requires : tie.Need-put-text-requires
 put-text-requires c κs =

@@ -2,7 +2,7 @@
 use native.Mathlib.Omega.{arith}
 use borrow.Author.Needs.{needs}
 use Rattle.lines.specs.Lines.{lineOf}
-use Rattle.lines.proofs.Printing.{status-room}
+use Rattle.lines.proofs.Printing.{refusal-length}
 use Rattle.lines.proofs.put_status.Statement.{statement}
 use Rattle.lines.proofs.put_status.Tie as tie
 
@@ -11,7 +11,7 @@ slice-aggregate-put-line c = search needs
 
 put-line-requires : tie.Need-put-line-requires
 unfolding lineOf
-put-line-requires c κs = let s = c .before .before .before in omega (arith, s .pre, status-room (s .args .n))
+put-line-requires c κs = let s = c .before .before .before in omega (arith, s .pre, refusal-length (s .args .n))
 
 same-length : tie.Need-same-length
 same-length c = search needs

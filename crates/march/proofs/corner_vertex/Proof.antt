@@ -3,7 +3,7 @@ use Prim.Native.Nat.{_+_, _*_, _<_}
 use native.Mathlib.Omega.{arith}
 use Rattle.tables.proofs.Cases.{mt-edges}
 use Rattle.tables.proofs.Tets.{tet-owned}
-use Rattle.march.specs.Loop.{cornerAt}
+use Rattle.march.specs.Inner.Loop.{cornerAt}
 use borrow.Author.Needs.{needs}
 use Rattle.march.proofs.corner_vertex.Statement.{statement}
 use Rattle.march.proofs.corner_vertex.Tie as tie

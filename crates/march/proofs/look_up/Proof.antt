@@ -3,9 +3,8 @@ use Prim.Native.Nat.{_/_}
 use mathlib.Core.Path.{refl}
 use native.Mathlib.Omega.{arith}
 use Rattle.tables.specs.Edges.{du, dv, dw}
-use Rattle.march.specs.Loop.{lookUp}
-use Rattle.march.proofs.Flat.{slot-in}
-use Rattle.march.proofs.Places.{steps-le}
+use Rattle.march.specs.Inner.Loop.{lookUp}
+use Rattle.march.proofs.Flat.{slot-in, steps-le}
 use borrow.Author.Needs.{needs}
 use Rattle.march.proofs.look_up.Statement.{statement}
 use Rattle.march.proofs.look_up.Tie as tie

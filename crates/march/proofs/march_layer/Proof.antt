@@ -8,7 +8,7 @@ use Rattle.laws.specs.Written.{Written}
 use Rattle.laws.proofs.Ranges.{each-none}
 use Rattle.laws.proofs.Written.{written-none, written-turn, written-done, written-length, written-room}
 use Rattle.march.specs.Lists.{fieldOf}
-use Rattle.march.specs.Loop.{rowFlat}
+use Rattle.march.specs.Inner.Loop.{rowFlat}
 use Rattle.march.proofs.Walk.{row-flat-le, slab-rows}
 use Rattle.march.proofs.march_layer.Statement.{statement}
 use Rattle.march.proofs.march_layer.Tie as tie

@@ -11,10 +11,10 @@ use Rattle.laws.proofs.Ranges.{each-none}
 use Rattle.laws.proofs.Written.{written-none, written-turn, written-done, written-length, written-room}
 use Rattle.march.specs.March.{siteTris}
 use Rattle.march.specs.Lists.{fieldOf}
-use Rattle.march.specs.Samples.{columnAt, columnOf}
-use Rattle.march.specs.Loop.{rowFlat}
+use Rattle.cases.specs.Inner.Codes.{columnAt, columnOf}
+use Rattle.march.specs.Inner.Loop.{rowFlat}
 use Rattle.march.proofs.Walk.{cell-room, site-flat-le}
-use Rattle.march.proofs.Columns.{column-is, column-room}
+use Rattle.cases.proofs.Columns.{column-is, column-room}
 use Rattle.march.proofs.march_row.Statement.{statement}
 use Rattle.march.proofs.march_row.Tie as tie
 
@@ -38,7 +38,7 @@ column-requires : tie.Need-column-requires Inv-loop μ-loop
 column-requires c κs =
     let s = c .before .before .before .before in
     let a = s .args in
-    omega (arith, column-room (a .n) (now (a .s)) (a .h) (now (a .edges)) (s .pre .0 .0) 0 (a .v) (s .pre .0 .0 .fit .u-some) (s .pre .0 .1))
+    omega (arith, column-room (a .n) (now (a .s)) (s .pre .0 .0 .fit) (s .pre .0 .0 .two) (s .pre .0 .0 .samples) 0 (a .v) (s .pre .0 .0 .fit .u-some) (s .pre .0 .1))
 
 loop-holds : tie.Need-loop-holds Inv-loop μ-loop
 loop-holds c =
@@ -48,7 +48,7 @@ loop-holds c =
       search needs,
       rw each-none (written-none _ _),
       c .column .ensures ∙ ap (λ (i : ℕ). columnAt (now (a .s)) (a .h) i (a .n .nu) (a .n .nu * a .n .nv)) i
-          ∙ column-is (a .n) (now (a .s)) (a .h) (now (a .edges)) (s .pre .0 .0) 0 (a .v) (s .pre .0 .0 .fit .u-some) (s .pre .0 .1),
+          ∙ column-is (a .n) (now (a .s)) (s .pre .0 .0 .fit) (s .pre .0 .0 .two) (s .pre .0 .0 .samples) 0 (a .v) (s .pre .0 .0 .fit .u-some) (s .pre .0 .1) (a .h),
     )
 
 march-cell-requires : tie.Need-march-cell-requires Inv-loop μ-loop

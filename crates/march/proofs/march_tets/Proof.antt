@@ -7,9 +7,9 @@ use Rattle.laws.specs.Ranges.{each}
 use Rattle.laws.specs.Written.{Written}
 use Rattle.laws.proofs.Ranges.{each-none}
 use Rattle.laws.proofs.Written.{written-none, written-turn, written-done, written-length, written-room}
-use Rattle.march.specs.Samples.{caseOn}
-use Rattle.march.specs.Loop.{lookUp, tetFlat, cellFlat}
-use Rattle.march.proofs.Cases.{on-lt}
+use Rattle.cases.specs.Inner.Codes.{caseOn}
+use Rattle.march.specs.Inner.Loop.{lookUp, tetFlat, cellFlat}
+use Rattle.cases.proofs.Codes.{on-lt}
 use Rattle.march.proofs.Flat.{tet-le}
 use Rattle.march.proofs.march_tets.Statement.{statement}
 use Rattle.march.proofs.march_tets.Tie as tie

@@ -1,7 +1,7 @@
 -- `pairs::flag_run` meets its contract. Assumes nothing.
 use native.Mathlib.Omega.{arith}
 use borrow.Author.Needs.{needs}
-use Rattle.pairs.proofs.Records.{recs-length}
+use Rattle.sort.proofs.Records.{recs-length}
 use Rattle.pairs.proofs.flag_run.Statement.{statement}
 use Rattle.pairs.proofs.flag_run.Tie as tie
 

@@ -4,9 +4,9 @@ use Prim.Native.Nat.{_*_, _-_, _/_, _≤_}
 use native.Mathlib.Omega.{arith}
 use lib.ListN.{length, length-drop}
 use Rattle.laws.proofs.Tails.{tail-is, tail-back, tail-length}
-use Rattle.pairs.specs.Records.{recs}
-use Rattle.pairs.proofs.Records.{recs-length}
-use Rattle.pairs.proofs.Order.{sorted-drop}
+use Rattle.sort.specs.Records.{recs}
+use Rattle.sort.proofs.Records.{recs-length}
+use Rattle.sort.proofs.Order.{sorted-drop}
 use Rattle.pairs.proofs.Runs.{Walked, walked-none, walked-part, walked-within, walked-words, walked-done}
 use Rattle.pairs.proofs.flag_runs.Statement.{statement}
 use Rattle.pairs.proofs.flag_runs.Tie as tie

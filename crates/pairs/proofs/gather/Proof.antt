@@ -5,7 +5,7 @@ use native.Mathlib.Omega.{arith}
 use lib.ListN.{length, getD, length-set}
 use Rattle.laws.specs.Ranges.{fold}
 use Rattle.laws.proofs.Ranges.{fold-none, fold-turn, fold-done}
-use Rattle.pairs.specs.Flags.{pulled}
+use Rattle.pairs.specs.Inner.Flags.{pulled}
 use Rattle.pairs.proofs.gather.Statement.{statement}
 use Rattle.pairs.proofs.gather.Tie as tie
 

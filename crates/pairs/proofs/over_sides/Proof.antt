@@ -1,11 +1,9 @@
 -- `pairs::over_sides` meets its contract. Assumes nothing.
-use mathlib.Core.Path.{_≡_, sym, ap, _∙_}
-use mathlib.Core.List.{_++_}
-use Prim.Native.Nat.{ℕ, _*_, _-_, _≤_}
+use mathlib.Core.Path.{_≡_, sym}
+use Prim.Native.Nat.{ℕ, _*_}
 use native.Mathlib.Omega.{arith}
-use lib.ListN.{length, take, replicate}
+use lib.ListN.{length, take, drop}
 use lib.Seq.{length-take-le}
-use Rattle.pairs.specs.Sides.{overFlags}
 use Rattle.pairs.proofs.Flags.{listed-homed, cleared}
 use borrow.Author.Needs.{needs}
 use Rattle.pairs.proofs.over_sides.Statement.{statement}
@@ -30,7 +28,7 @@ flag-home-requires c κs =
     let listed = c .before .before .before .list-sides in
     let w : ℕ = length tris * 3 in
     let size : length (take w (listed .last .1 .0)) ≡ w = length-take-le w (listed .last .1 .0) (slice-relend-prefix-flag-home (c .before)) in
-    (omega (arith, size), listed .ensures .sorted, listed-homed tris (s .pre .whole) (take w (listed .last .1 .0)) size (listed .ensures .perm))
+    (omega (arith, size), listed .ensures .done .sorted, listed-homed tris (s .pre .whole) (take w (listed .last .1 .0)) size (listed .ensures .done .perm))
 
 mul-clear : tie.Need-mul-clear
 mul-clear c = search needs
@@ -59,10 +57,8 @@ returns c =
     let end = c .before .before .clear in
     let w : ℕ = length tris * 3 in
     let room = listed .last .1 .0 in
-    let fits : w ≤ length room = slice-relend-prefix-flag-home (c .before .before .before .before .before .before .before .before) in
-    let size : length (take w room) ≡ w = length-take-le w room fits in
-    cleared tris (s .pre .whole) (take w room) size (listed .ensures .perm) room (home .last .0) (end .last .0) (omega (arith, size, fits)) (home .kept .0) (home .ensures) (end .ensures)
-    ∙ ap (λ (k : ℕ). overFlags tris ++ replicate (k - length tris) 0) (listed .kept .1 .0)
+    let size : length (take w room) ≡ w = length-take-le w room (slice-relend-prefix-flag-home (c .before .before .before .before .before .before .before .before)) in
+    cleared tris (s .pre .whole) (take w room) size (listed .ensures .done .perm) (length (s .args .room .now)) (drop w room) (home .last .0) (end .last .0) (s .pre .nine) (listed .ensures .zeros) (home .kept .0) (home .ensures) (end .ensures)
 
 pub over-sides-spec : {M : Type 1} → statement M
 over-sides-spec =

@@ -2,10 +2,10 @@
 use mathlib.Core.Path.{ap, _∙_}
 use native.Mathlib.Omega.{arith}
 use borrow.Author.Needs.{needs}
-use lib.ListN.{set}
-use Rattle.pairs.specs.declared.Rec.{Rec}
-use Rattle.pairs.specs.Records.{recs}
-use Rattle.pairs.proofs.Sides.{side-up, side-down, next-within}
+use Rattle.sort.specs.declared.Rec.{Rec}
+use Rattle.sort.specs.Records.{stored}
+use Rattle.pairs.proofs.Sides.{next-within}
+use Rattle.pairs.proofs.Listing.{side-up, side-down}
 use Rattle.pairs.proofs.put.Statement.{statement}
 use Rattle.pairs.proofs.put.Tie as tie
 
@@ -45,7 +45,7 @@ returns c =
     let a = c .before .before .before .before .before .before .before .before .before .before .args in
     let p = c .before .before .before .before .before .before .before .before .before .before .pre in
     c .before .before .store .ensures
-    ∙ ap (λ (r : Rec). set (recs (a .room .now)) (a .k) r) (side-up (a .tris .now) (p .0 .whole) (a .k) _ (p .1) (c .before .before .before .before .before .before .next-corner .ensures) (c .before .before .before .before .if1 .taken))
+    ∙ ap (λ (r : Rec). stored (a .room .now) (a .k) r) (side-up (a .tris .now) (p .0 .whole) (a .k) _ (p .1) (c .before .before .before .before .before .before .next-corner .ensures) (c .before .before .before .before .if1 .taken))
 
 same-length-2 : tie.Need-same-length-2
 same-length-2 c = search needs
@@ -55,7 +55,7 @@ returns-2 c =
     let a = c .before .before .before .before .before .before .before .before .before .before .args in
     let p = c .before .before .before .before .before .before .before .before .before .before .pre in
     c .before .before .store2 .ensures
-    ∙ ap (λ (r : Rec). set (recs (a .room .now)) (a .k) r) (side-down (a .tris .now) (p .0 .whole) (a .k) _ (p .1) (c .before .before .before .before .before .before .next-corner .ensures) (c .before .before .before .before .if1 .left))
+    ∙ ap (λ (r : Rec). stored (a .room .now) (a .k) r) (side-down (a .tris .now) (p .0 .whole) (a .k) _ (p .1) (c .before .before .before .before .before .before .next-corner .ensures) (c .before .before .before .before .if1 .left))
 
 pub put-spec : {M : Type 1} → statement M
 put-spec =

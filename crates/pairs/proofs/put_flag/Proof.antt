@@ -2,8 +2,9 @@
 use mathlib.Core.Path.{ap, _∙_}
 use borrow.Author.Needs.{needs}
 use lib.ListN.{set}
-use Rattle.pairs.specs.declared.Rec.{Rec}
-use Rattle.pairs.specs.Records.{recs}
+use Rattle.sort.specs.declared.Rec.{Rec}
+use Rattle.sort.specs.Records.{recs}
+use Rattle.sort.proofs.Records.{stored-recs}
 use Rattle.pairs.proofs.Runs.{flag-up, flag-down}
 use Rattle.pairs.proofs.put_flag.Statement.{statement}
 use Rattle.pairs.proofs.put_flag.Tie as tie
@@ -22,16 +23,18 @@ same-length c = search needs
 
 returns : tie.Need-returns
 returns c =
-    let a = c .before .before .before .before .before .before .before .before .args in
-    c .before .before .store .ensures ∙ ap (λ (r : Rec). set (recs (a .s .now)) (a .i) r) (flag-up (c .before .before .before .before .if1 .taken) (c .before .before .before .before .before .load .ensures))
+    let s = c .before .before .before .before .before .before .before .before in
+    let a = s .args in
+    stored-recs (a .s .now) (a .i) _ (s .pre) (c .before .before .store .ensures) ∙ ap (λ (r : Rec). set (recs (a .s .now)) (a .i) r) (flag-up (c .before .before .before .before .if1 .taken) (c .before .before .before .before .before .load .ensures))
 
 same-length-2 : tie.Need-same-length-2
 same-length-2 c = search needs
 
 returns-2 : tie.Need-returns-2
 returns-2 c =
-    let a = c .before .before .before .before .before .before .before .before .args in
-    c .before .before .store2 .ensures ∙ ap (λ (r : Rec). set (recs (a .s .now)) (a .i) r) (flag-down (c .before .before .before .before .if1 .left) (c .before .before .before .before .before .load .ensures))
+    let s = c .before .before .before .before .before .before .before .before in
+    let a = s .args in
+    stored-recs (a .s .now) (a .i) _ (s .pre) (c .before .before .store2 .ensures) ∙ ap (λ (r : Rec). set (recs (a .s .now)) (a .i) r) (flag-down (c .before .before .before .before .if1 .left) (c .before .before .before .before .before .load .ensures))
 
 pub put-flag-spec : {M : Type 1} → statement M
 put-flag-spec =

@@ -1,14 +1,14 @@
 -- `pairs::put_flags` meets its contract: the first i records have the flag. Assumes nothing.
 use mathlib.Core.Path.{_≡_, refl, ap, _∙_}
 use mathlib.Core.List.{List, _++_, map}
-use Prim.Native.Nat.{ℕ, _+_, _-_, _≤_, _<_}
+use Prim.Native.Nat.{ℕ, _-_, _≤_, _<_}
 use native.Mathlib.Omega.{arith}
 use lib.ListN.{length, getD, set, take, drop}
 use Rattle.laws.proofs.Lists.{front-map-at, front-map-more}
-use Rattle.pairs.specs.declared.Rec.{Rec}
-use Rattle.pairs.specs.Records.{none, recs}
-use Rattle.pairs.specs.Runs.{flagged}
-use Rattle.pairs.proofs.Records.{recs-length}
+use Rattle.sort.specs.declared.Rec.{Rec}
+use Rattle.sort.specs.Records.{none, recs}
+use Rattle.pairs.specs.Inner.Runs.{flagged}
+use Rattle.sort.proofs.Records.{recs-length}
 use Rattle.pairs.proofs.put_flags.Statement.{statement}
 use Rattle.pairs.proofs.put_flags.Tie as tie
 

@@ -4,9 +4,9 @@ use Prim.Native.Nat.{ℕ, _-_, _/_, _≤_, _<_}
 use native.Mathlib.Omega.{arith}
 use borrow.Author.Count.{below-more}
 use lib.ListN.{length, getD}
-use Rattle.pairs.specs.Records.{none, recs, pairOf}
-use Rattle.pairs.proofs.Records.{recs-length}
-use Rattle.pairs.proofs.Order.{words-fit}
+use Rattle.sort.specs.Records.{none, recs, pairOf}
+use Rattle.sort.proofs.Records.{recs-length}
+use Rattle.sort.proofs.Order.{words-fit}
 use Rattle.pairs.proofs.Runs.{front-found}
 use Rattle.pairs.proofs.run.Statement.{statement}
 use Rattle.pairs.proofs.run.Tie as tie

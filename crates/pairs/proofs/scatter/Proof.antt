@@ -6,7 +6,7 @@ use native.Mathlib.Omega.{arith}
 use lib.ListN.{length, getD}
 use Rattle.laws.specs.Ranges.{fold}
 use Rattle.laws.proofs.Ranges.{fold-none, fold-turn, fold-done}
-use Rattle.pairs.specs.Flags.{sent}
+use Rattle.pairs.specs.Inner.Flags.{sent}
 use Rattle.pairs.proofs.Flags.{sent-side}
 use Rattle.pairs.proofs.scatter.Statement.{statement}
 use Rattle.pairs.proofs.scatter.Tie as tie

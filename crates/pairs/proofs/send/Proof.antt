@@ -1,7 +1,7 @@
 -- `pairs::send` meets its contract. Assumes nothing.
 use mathlib.Core.Path.{refl}
 use borrow.Author.Needs.{needs}
-use Rattle.pairs.specs.Flags.{sent}
+use Rattle.pairs.specs.Inner.Flags.{sent}
 use Rattle.pairs.proofs.send.Statement.{statement}
 use Rattle.pairs.proofs.send.Tie as tie
 

@@ -1,7 +1,7 @@
 -- `ply::find` meets its contract. Assumes nothing.
 use native.Mathlib.Omega.{arith}
 use Rattle.ply.specs.Answers.{not-read}
-use Rattle.ply.specs.Parts.{Whole}
+use Rattle.ply.specs.Inner.Parts.{Whole}
 use Rattle.ply.proofs.Answering.{short-words, short-triangles}
 use borrow.Author.Needs.{needs}
 use Rattle.ply.proofs.find.Statement.{statement}

@@ -7,7 +7,7 @@ use Rattle.laws.specs.Written.{Written}
 use Rattle.laws.proofs.Ranges.{each-none}
 use Rattle.laws.proofs.Written.{written-none, written-one, written-turn, written-done, written-length}
 use Rattle.little_endian.specs.Bytes.{numberAt}
-use Rattle.ply.specs.Parts.{wordsIn}
+use Rattle.ply.specs.Inner.Parts.{wordsIn}
 use Rattle.ply.proofs.get_words.Statement.{statement}
 use Rattle.ply.proofs.get_words.Tie as tie
 

@@ -2,7 +2,7 @@
 use native.Mathlib.Omega.{arith}
 use mathlib.Core.Path.{refl}
 use Rattle.ply.specs.Answers.{no-header, no-body}
-use Rattle.ply.specs.Parts.{HeaderAt}
+use Rattle.ply.specs.Inner.Parts.{HeaderAt}
 use Rattle.ply.proofs.Heads.{head-within, header-headed}
 use Rattle.ply.proofs.Reading.{short-body, bad-faces, faces-within, file-found}
 use borrow.Author.Needs.{needs}

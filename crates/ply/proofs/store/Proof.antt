@@ -3,7 +3,7 @@ use native.Mathlib.Omega.{arith}
 use mathlib.Core.Path.{refl}
 use lib.ListN.{length}
 use Rattle.ply.specs.Answers.{unstored}
-use Rattle.ply.specs.Parts.{Placed}
+use Rattle.ply.specs.Inner.Parts.{Placed}
 use Rattle.ply.proofs.Answering.{words-there, faces-there, read-done}
 use borrow.Author.Needs.{needs}
 use Rattle.ply.proofs.store.Statement.{statement}

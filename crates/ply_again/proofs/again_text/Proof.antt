@@ -22,25 +22,25 @@ room-triangles k = triangles-there _ _ (k .before .before .before .before .befor
 sizes-requires : tie.Need-sizes-requires
 sizes-requires c κs = search needs
 
-print-refusal-requires : tie.Need-print-refusal-requires
-print-refusal-requires c κs = search needs
+put-status-requires : tie.Need-put-status-requires
+put-status-requires c κs = search needs
 
 returns : tie.Need-returns
-returns c = again-nine _ _ (c .before .before .before .sizes .ensures) (c .before .before .if1 .taken) _ _ _ (c .before .print-refusal-arg .given .0 .1) (c .print-refusal .ensures)
+returns c = again-nine _ _ (c .before .before .before .sizes .ensures) (c .before .before .if1 .taken) _ _ _ (c .before .put-status-arg .given .0 .1) (c .put-status .ensures)
 
-print-refusal-requires-2 : tie.Need-print-refusal-requires-2
-print-refusal-requires-2 c κs = search needs
+put-status-requires-2 : tie.Need-put-status-requires-2
+put-status-requires-2 c κs = search needs
 
 returns-2 : tie.Need-returns-2
-returns-2 c = again-long _ _ (c .before .before .before .before .sizes .ensures) (c .before .before .before .if1 .left) (c .before .before .if2 .taken) _ _ _ (c .before .print-refusal-arg2 .given .0 .1) (c .print-refusal2 .ensures)
+returns-2 c = again-long _ _ (c .before .before .before .before .sizes .ensures) (c .before .before .before .if1 .left) (c .before .before .if2 .taken) _ _ _ (c .before .put-status-arg2 .given .0 .1) (c .put-status2 .ensures)
 
-print-refusal-requires-3 : tie.Need-print-refusal-requires-3
-print-refusal-requires-3 c κs = search needs
+put-status-requires-3 : tie.Need-put-status-requires-3
+put-status-requires-3 c κs = search needs
 
 returns-3 : tie.Need-returns-3
 returns-3 c =
     again-ten _ _ (c .before .before .before .before .before .sizes .ensures) (c .before .before .before .before .if1 .left) (c .before .before .before .if2 .left) (c .before .before .if3 .taken) _ _ _
-    (c .before .print-refusal-arg3 .given .0 .1) (c .print-refusal3 .ensures)
+    (c .before .put-status-arg3 .given .0 .1) (c .put-status3 .ensures)
 
 slice-aggregate-read : tie.Need-slice-aggregate-read
 slice-aggregate-read c = search needs
@@ -83,11 +83,11 @@ again-text-spec =
     tie.close
     (tie.spec
     sizes-requires
-    print-refusal-requires
+    put-status-requires
     returns
-    print-refusal-requires-2
+    put-status-requires-2
     returns-2
-    print-refusal-requires-3
+    put-status-requires-3
     returns-3
     slice-aggregate-read
     slice-aggregate-read-2

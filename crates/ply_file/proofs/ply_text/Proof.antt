@@ -28,14 +28,14 @@ slice-aggregate-build-file-6 c = search needs
 build-file-requires : tie.Need-build-file-requires
 build-file-requires c κs = search needs
 
-print-refusal-requires : tie.Need-print-refusal-requires
-print-refusal-requires c κs = search needs
+put-status-requires : tie.Need-put-status-requires
+put-status-requires c κs = search needs
 
 returns : tie.Need-returns
 returns c =
     let t = c .before .before in
     let b = t .before .before .before .before .before .before .before .before in
-    drawn-refused _ _ _ _ refl (b .build-file .ensures) (t .if1 .taken) _ _ _ (c .before .print-refusal-arg .given .0 .1) (c .print-refusal .ensures)
+    drawn-refused _ _ _ _ refl (b .build-file .ensures) (t .if1 .taken) _ _ _ (c .before .put-status-arg .given .0 .1) (c .put-status .ensures)
 
 mul-v : tie.Need-mul-v
 mul-v c =
@@ -87,7 +87,7 @@ ply-text-spec =
     slice-aggregate-build-file-5
     slice-aggregate-build-file-6
     build-file-requires
-    print-refusal-requires
+    put-status-requires
     returns
     mul-v
     mul-t

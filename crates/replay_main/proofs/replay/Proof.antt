@@ -5,7 +5,7 @@ use borrow.Author.Needs.{needs}
 use mathlib.Core.List.{List, [], _∷_}
 use lib.ListN.{length, length-append}
 use Rattle.lines.specs.Lines.{Small, decEnd, decLine}
-use Rattle.lines.specs.Readers.{Reads}
+use Rattle.lines.specs.Inner.Readers.{Reads}
 use Rattle.replay_main.proofs.replay.Statement.{statement}
 use Rattle.replay_main.proofs.replay.Tie as tie
 

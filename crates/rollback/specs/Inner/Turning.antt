@@ -17,7 +17,8 @@ use Rattle.stages.specs.Boxes.{owned}
 use Rattle.stages.specs.Vertices.{Vertex}
 use Rattle.stages.specs.Meshes.{bookOf, positionsOf}
 use Rattle.stages.specs.Samples.{positionAt}
-use Rattle.site_vertices.specs.Inner.Appending.{Space, paintFrom, singlesOf}
+use Rattle.stages.specs.Inner.Steps.{paintFrom}
+use Rattle.site_vertices.specs.Inner.Appending.{Space, singlesOf}
 
 -- the edge e of the site s is vertex i's by the table t
 unfoldable pub heldAt : Sides → List ℕ → ℕ → ℕ → ℕ → Bool

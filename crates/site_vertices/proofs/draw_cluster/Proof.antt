@@ -49,7 +49,7 @@ returns : tie.Need-returns Inv-loop μ-loop
 unfolding joinTo claimTo
 returns c =
     let at = c .before .loop in
-    (fold-done _ (at .e) 14 _ (at .sum) (at .inv .sum) (at .inv .low) (c .loop-test .left), fold-done _ (at .e) 14 _ (at .table) (at .inv .table) (at .inv .low) (c .loop-test .left))
+    record { sum = fold-done _ (at .e) 14 _ (at .sum) (at .inv .sum) (at .inv .low) (c .loop-test .left); table = fold-done _ (at .e) 14 _ (at .table) (at .inv .table) (at .inv .low) (c .loop-test .left) }
 
 pub draw-cluster-spec : {M : Type 1} → statement M
 draw-cluster-spec =

@@ -57,7 +57,7 @@ returns-2 c =
     let s = c .before .before .before .before .before .before .before .before .before .before .before .before .before .before .before .before .before .before .before in
     let a = s .args in
     let d = c .before .before .before .before .before .before .before .before .before .before .before .before .draw-edge in
-    single-some (a .frame) (a .n) (a .samples .now) (a .s) (a .e) (a .round) (a .next) (a .table .now) (a .positions .now) (a .book .now) (a .wanted) (c .before .before .before .before .before .before .before .before .before .before .before .before .before .before .no-points .result) (d .result) _ (c .before .before .before .before .before .before .before .before .before .before .before .before .before .before .no-points .ensures) (d .ensures .0) (d .ensures .1) (c .before .before .before .before .before .before .before .mean .result) _ _ (c .before .before .before .before .before .before .before .before .if1 .left) (c .before .before .before .before .before .before .before .mean .ensures) (c .before .before .before .before .put-vertex .ensures .0) (c .before .before .before .before .put-vertex .ensures .1)
+    single-some (a .frame) (a .n) (a .samples .now) (a .s) (a .e) (a .round) (a .next) (a .table .now) (a .positions .now) (a .book .now) (a .wanted) (c .before .before .before .before .before .before .before .before .before .before .before .before .before .before .no-points .result) (d .result) _ (c .before .before .before .before .before .before .before .before .before .before .before .before .before .before .no-points .ensures) (d .ensures .0) (d .ensures .1) (c .before .before .before .before .before .before .before .mean .result) _ _ (c .before .before .before .before .before .before .before .before .if1 .left) (c .before .before .before .before .before .before .before .mean .ensures) (c .before .before .before .before .put-vertex .ensures .positions) (c .before .before .before .before .put-vertex .ensures .book)
 
 pub draw-single-spec : {M : Type 1} → statement M
 draw-single-spec =

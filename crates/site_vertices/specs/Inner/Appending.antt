@@ -3,7 +3,7 @@
 use mathlib.Core.Path.{_≡_}
 use mathlib.Core.Bool.{Bool, cond}
 use mathlib.Core.List.{List, [], _∷_, map}
-use Prim.Native.Nat.{ℕ, suc, _+_, _*_, _≤_}
+use Prim.Native.Nat.{ℕ, _+_, _*_, _≤_}
 use lib.ListN.{length}
 use lib.Seq.{sets}
 use lib.Ieee.{Float}
@@ -13,16 +13,10 @@ use Rattle.laws.specs.Lists.{keep}
 use Rattle.lattice.specs.declared.Sides.{Sides}
 use Rattle.lattice.specs.Across.{acrossOf}
 use Rattle.points.specs.declared.Frame.{Frame}
-use Rattle.stages.specs.Boxes.{owned}
-use Rattle.stages.specs.Vertices.{Vertex, fresh, held}
+use Rattle.stages.specs.Vertices.{Vertex, fresh}
 use Rattle.stages.specs.Meshes.{bookOf, positionsOf}
 use Rattle.stages.specs.Samples.{pointBy, positionAt}
-use Rattle.stages.specs.Inner.Steps.{paint}
-
--- the vertices painted in turn, the first of them numbered i: `paintAll` of any box with these sides
-unfoldable pub paintFrom : Sides → ℕ → List Vertex → List ℕ → List ℕ
-paintFrom n i [] t = t
-paintFrom n i (x ∷ vs) t = paintFrom n (suc i) vs (paint i (map (owned n (x .site)) (held x)) t)
+use Rattle.stages.specs.Inner.Steps.{paintFrom}
 
 -- The vertices ws are appended, the first of them numbered i: from the table t, the positions p and the book k to those with a dash, where j is the next number.
 pub record Appended (f : Frame) (n : Sides) (S : List Float) (ws : List Vertex) (i : ℕ) (t : List ℕ) (p : List Float) (k : List ℕ) (j : ℕ) (t′ : List ℕ)

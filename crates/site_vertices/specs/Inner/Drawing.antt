@@ -1,8 +1,10 @@
 -- One vertex drawn edge by edge: each edge of its mask that has a point adds it to the sum, and its place in the edge table takes the vertex's number. Assumes nothing.
+use mathlib.Core.Path.{_≡_}
 use mathlib.Core.Bool.{Bool, cond}
-use mathlib.Core.List.{List}
+use mathlib.Core.List.{List, [], _∷_}
 use Prim.Native.Nat.{ℕ, _*_, _<_, _≤_}
 use lib.ListN.{length, set}
+use lib.Seq.{sets}
 use lib.Ieee.{Float}
 use Rattle.laws.specs.Digits.{isSet}
 use Rattle.laws.specs.Ranges.{fold}
@@ -11,6 +13,7 @@ use Rattle.lattice.specs.Sites.{sites}
 use Rattle.lattice.specs.Across.{acrossOf}
 use Rattle.marks.specs.Inner.Loops.{Sampled}
 use Rattle.points.specs.declared.Frame.{Frame}
+use Rattle.points.specs.declared.Point.{Point}
 use Rattle.points.specs.declared.Sum.{Sum}
 use Rattle.points.specs.declared.EdgePoint.{EdgePoint}
 use Rattle.points.specs.declared.EdgePoint.the-variants as on
@@ -46,3 +49,15 @@ pub record Drawable (n : Sides) (S : List Float) (t : List ℕ) (s : ℕ) : Type
   pub sampled : Sampled n S
   pub low : s < sites n
   pub table : 7 * sites n ≤ length t
+
+-- ---- the promises
+
+-- the sum of a cluster's points, and the table in which the places of its edges have its number
+pub record ClusterDrawn (f : Frame) (n : Sides) (S : List Float) (s m id : ℕ) (t t′ : List ℕ) (r : Sum) : Type 0 where
+  pub sum : r ≡ joinTo f n S s m 14
+  pub table : t′ ≡ claimTo f n S s m id 14 t
+
+-- vertex i: its position, and its row of the book
+pub record VertexPut (i : ℕ) (x : Point) (s held round : ℕ) (p p′ : List Float) (k k′ : List ℕ) : Type 0 where
+  pub positions : p′ ≡ sets p (3 * i) (x .x ∷ x .y ∷ x .z ∷ [])
+  pub book : k′ ≡ sets k (4 * i) (s ∷ held ∷ held ∷ round ∷ [])

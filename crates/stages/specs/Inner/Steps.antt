@@ -1,13 +1,14 @@
 -- The passes in the steps of the code: the edge table written place by place, a rollback vertex by vertex and edge by edge. Assumes nothing.
 use mathlib.Core.Bool.{Bool, _&&_, cond}
-use mathlib.Core.List.{List, [], _∷_, _++_}
+use mathlib.Core.List.{List, [], _∷_, _++_, map}
 use Prim.Native.Nat.{ℕ, suc}
 use lib.Dec.{eqb}
 use lib.ListN.{getD, set}
 use Rattle.laws.specs.Ranges.{fold}
 use Rattle.march.specs.March.{none}
-use Rattle.stages.specs.Boxes.{Box}
-use Rattle.stages.specs.Vertices.{Vertex, nobody, keys, apart}
+use Rattle.lattice.specs.declared.Sides.{Sides}
+use Rattle.stages.specs.Boxes.{owned}
+use Rattle.stages.specs.Vertices.{Vertex, nobody, held, apart}
 use Rattle.stages.specs.Rounds.{rolled, retired}
 
 -- the vertex n is written at each of the places
@@ -15,10 +16,10 @@ unfoldable pub paint : ℕ → List ℕ → List ℕ → List ℕ
 paint n [] t = t
 paint n (k ∷ ks) t = paint n ks (set t k n)
 
--- a vertex pass: the vertices painted in turn, the first of them numbered n
-unfoldable pub paintAll : Box → ℕ → List Vertex → List ℕ → List ℕ
-paintAll b n [] t = t
-paintAll b n (x ∷ vs) t = paintAll b (suc n) vs (paint n (keys b x) t)
+-- a vertex pass in a box with sides n: the vertices painted in turn, the first of them numbered i
+unfoldable pub paintFrom : Sides → ℕ → List Vertex → List ℕ → List ℕ
+paintFrom n i [] t = t
+paintFrom n i (x ∷ vs) t = paintFrom n (suc i) vs (paint i (map (owned n (x .site)) (held x)) t)
 
 -- each place gets a vertex of its own, from n on
 unfoldable pub number : ℕ → List ℕ → List ℕ → List ℕ

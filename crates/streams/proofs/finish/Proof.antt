@@ -1,5 +1,4 @@
 -- `streams::finish` is safe and ends. The measure is the number of turns that are left. Assumes nothing.
-use native.Mathlib.Omega.{arith}
 use mathlib.Core.Path.{_≡_}
 use lib.ListN.{length}
 use borrow.Author.Needs.{needs}

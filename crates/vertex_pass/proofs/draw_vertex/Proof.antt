@@ -22,7 +22,7 @@ returns c =
     let s = c .before .before .before .before .before .before .before .before .before .before in
     let a = s .args in
     let d = c .before .before .before .draw-cluster in
-    vertex-none (a .frame) (a .n) (a .samples .now) (a .s) (a .mask) (flagOf (a .flags .now)) (a .at) (a .table .now) _ (a .positions .now) (a .book .now) (d .result) (d .ensures .0) (d .ensures .1) (c .if1 .taken)
+    vertex-none (a .frame) (a .n) (a .samples .now) (a .s) (a .mask) (flagOf (a .flags .now)) (a .at) (a .table .now) _ (a .positions .now) (a .book .now) (d .result) (d .ensures .sum) (d .ensures .table) (c .if1 .taken)
 
 add-tried : tie.Need-add-tried
 add-tried c = search needs
@@ -35,14 +35,14 @@ draw-singles-requires c κs =
     let s = c .before .before .before .before .before .before .before .before .before .before .before .before .before .before .before .before in
     let a = s .args in
     let d = c .before .before .before .before .before .before .before .before .before .draw-cluster in
-    (record { sampled = s .pre .0 .sampled; low = s .pre .0 .low; table = omega (arith, s .pre .0 .table, d .kept .1 .1 .1 .0) }, split-space (a .frame) (a .n) (a .samples .now) (a .s) (a .mask) (flagOf (a .flags .now)) (a .at) (a .table .now) _ (a .positions .now) (a .book .now) (d .result) (d .ensures .0) (d .ensures .1) (c .before .before .before .before .before .before .if1 .left) (sym (c .before .before .before .before .is-split .ensures) ∙ c .before .before .before .if2 .taken) (s .pre .1))
+    (record { sampled = s .pre .0 .sampled; low = s .pre .0 .low; table = omega (arith, s .pre .0 .table, d .kept .1 .1 .1 .0) }, split-space (a .frame) (a .n) (a .samples .now) (a .s) (a .mask) (flagOf (a .flags .now)) (a .at) (a .table .now) _ (a .positions .now) (a .book .now) (d .result) (d .ensures .sum) (d .ensures .table) (c .before .before .before .before .before .before .if1 .left) (sym (c .before .before .before .before .is-split .ensures) ∙ c .before .before .before .if2 .taken) (s .pre .1))
 
 add-t29 : tie.Need-add-t29
 add-t29 c =
     let s = c .before .before .before .before .before .before .before .before .before .before .before .before .before .before .before .before .before .before .before .before .before .before .before in
     let a = s .args in
     let d = c .before .before .before .before .before .before .before .before .before .before .before .before .before .before .before .before .draw-cluster in
-    omega (arith, met-one (a .frame) (a .n) (a .samples .now) (a .s) (a .mask) (flagOf (a .flags .now)) (a .at) (a .table .now) _ (a .positions .now) (a .book .now) (d .result) (d .ensures .0) (d .ensures .1) (c .before .before .before .before .before .before .before .before .before .before .before .before .before .if1 .left) (s .pre .1) .1)
+    omega (arith, met-one (a .frame) (a .n) (a .samples .now) (a .s) (a .mask) (flagOf (a .flags .now)) (a .at) (a .table .now) _ (a .positions .now) (a .book .now) (d .result) (d .ensures .sum) (d .ensures .table) (c .before .before .before .before .before .before .before .before .before .before .before .before .before .if1 .left) (s .pre .1) .1)
 
 same-length-2 : tie.Need-same-length-2
 same-length-2 c = search needs
@@ -59,7 +59,7 @@ returns-2 c =
     let a = s .args in
     let d = c .before .before .before .before .before .before .before .before .before .before .before .before .before .before .before .before .draw-cluster in
     let z = c .before .before .before .before .before .before .draw-singles in
-    vertex-split (a .frame) (a .n) (a .samples .now) (a .s) (a .mask) (flagOf (a .flags .now)) (a .at) (a .table .now) _ (a .positions .now) (a .book .now) (d .result) (d .ensures .0) (d .ensures .1) (c .before .before .before .before .before .before .before .before .before .before .before .before .before .if1 .left) (sym (c .before .before .before .before .before .before .before .before .before .before .before .is-split .ensures) ∙ c .before .before .before .before .before .before .before .before .before .before .if2 .taken) (z .result) _ _ _ (z .ensures)
+    vertex-split (a .frame) (a .n) (a .samples .now) (a .s) (a .mask) (flagOf (a .flags .now)) (a .at) (a .table .now) _ (a .positions .now) (a .book .now) (d .result) (d .ensures .sum) (d .ensures .table) (c .before .before .before .before .before .before .before .before .before .before .before .before .before .if1 .left) (sym (c .before .before .before .before .before .before .before .before .before .before .before .is-split .ensures) ∙ c .before .before .before .before .before .before .before .before .before .before .if2 .taken) (z .result) _ _ _ (z .ensures)
 
 mean-requires : tie.Need-mean-requires
 mean-requires c κs = search needs
@@ -69,7 +69,7 @@ put-vertex-requires c κs =
     let s = c .before .before .before .before .before .before .before .before .before .before .before .before .before .before .before .before in
     let a = s .args in
     let d = c .before .before .before .before .before .before .before .before .before .draw-cluster in
-    (whole-space (a .frame) (a .n) (a .samples .now) (a .s) (a .mask) (flagOf (a .flags .now)) (a .at) (a .table .now) _ (a .positions .now) (a .book .now) (d .result) (d .ensures .0) (d .ensures .1) (c .before .before .before .before .before .before .if1 .left) (sym (c .before .before .before .before .is-split .ensures) ∙ c .before .before .before .if2 .left) (s .pre .1), omega (arith, s .pre .0 .low, sites-most (a .n) (s .pre .0 .sampled .fit)))
+    (whole-space (a .frame) (a .n) (a .samples .now) (a .s) (a .mask) (flagOf (a .flags .now)) (a .at) (a .table .now) _ (a .positions .now) (a .book .now) (d .result) (d .ensures .sum) (d .ensures .table) (c .before .before .before .before .before .before .if1 .left) (sym (c .before .before .before .before .is-split .ensures) ∙ c .before .before .before .if2 .left) (s .pre .1), omega (arith, s .pre .0 .low, sites-most (a .n) (s .pre .0 .sampled .fit)))
 
 add-t35 : tie.Need-add-t35
 add-t35 c =
@@ -93,7 +93,7 @@ returns-3 c =
     let a = s .args in
     let d = c .before .before .before .before .before .before .before .before .before .before .before .before .before .before .draw-cluster in
     let z = c .before .before .before .before .put-vertex in
-    vertex-whole (a .frame) (a .n) (a .samples .now) (a .s) (a .mask) (flagOf (a .flags .now)) (a .at) (a .table .now) _ (a .positions .now) (a .book .now) (d .result) (d .ensures .0) (d .ensures .1) (c .before .before .before .before .before .before .before .before .before .before .before .if1 .left) (sym (c .before .before .before .before .before .before .before .before .before .is-split .ensures) ∙ c .before .before .before .before .before .before .before .before .if2 .left) (c .before .before .before .before .before .before .before .mean .result) _ _ (c .before .before .before .before .before .before .before .mean .ensures) (z .ensures .0) (z .ensures .1)
+    vertex-whole (a .frame) (a .n) (a .samples .now) (a .s) (a .mask) (flagOf (a .flags .now)) (a .at) (a .table .now) _ (a .positions .now) (a .book .now) (d .result) (d .ensures .sum) (d .ensures .table) (c .before .before .before .before .before .before .before .before .before .before .before .if1 .left) (sym (c .before .before .before .before .before .before .before .before .before .is-split .ensures) ∙ c .before .before .before .before .before .before .before .before .if2 .left) (c .before .before .before .before .before .before .before .mean .result) _ _ (c .before .before .before .before .before .before .before .mean .ensures) (z .ensures .positions) (z .ensures .book)
 
 pub draw-vertex-spec : {M : Type 1} → statement M
 draw-vertex-spec =

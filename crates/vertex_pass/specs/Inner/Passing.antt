@@ -1,35 +1,25 @@
 -- The vertex pass over candidates, each of which has a flag by its number: a flagged one that holds more than one edge has its edges apart. Assumes nothing.
 use mathlib.Core.Path.{_≡_}
-use mathlib.Core.Bool.{Bool, _&&_, cond}
-use mathlib.Core.List.{List, [], _∷_, _++_, map}
-use Prim.Native.Nat.{ℕ, suc, _+_, _*_, _<_, _≤_}
+use mathlib.Core.Bool.{Bool}
+use mathlib.Core.List.{List, [], _∷_, map}
+use Prim.Native.Nat.{ℕ, _+_, _*_, _<_, _≤_}
 use lib.Dec.{eqb}
 use lib.ListN.{length, getD, replicate}
 use lib.Ieee.{Float}
-
 use Rattle.laws.specs.Ranges.{each}
 use Rattle.laws.specs.Lists.{keep}
 use Rattle.lattice.specs.declared.Sides.{Sides}
 use Rattle.lattice.specs.Sites.{sites}
 use Rattle.marks.specs.Marks.{maskAt}
 use Rattle.marks.specs.Inner.Loops.{Sampled}
-
 use Rattle.points.specs.declared.Frame.{Frame}
 use Rattle.march.specs.March.{none}
-use Rattle.stages.specs.Vertices.{Vertex, several, apart, fresh, filled, candidates}
+use Rattle.stages.specs.Vertices.{Vertex, fresh, filled, candidates}
+use Rattle.stages.specs.Splits.{placeBy, splitBy}
 use Rattle.stages.specs.Samples.{boxOf, edgesOf, caseCount}
 use Rattle.site_vertices.specs.Inner.Appending.{Appended, Space, pointedOf}
 use Rattle.vertex_pass.specs.declared.Pass.{Pass}
 use Rattle.vertex_pass.specs.declared.Walk.{Walk}
-
--- the vertices from candidate i on, where q says which are flagged: `place ps` flags the ends of the pairs ps
-unfoldable pub placeBy : (ℕ → Bool) → ℕ → List Vertex → List Vertex
-placeBy q i [] = []
-placeBy q i (x ∷ xs) = cond (several x && q i) (apart 0 x) (x ∷ []) ++ placeBy q (suc i) xs
-
-unfoldable pub splitBy : (ℕ → Bool) → ℕ → List Vertex → ℕ
-splitBy q i [] = 0
-splitBy q i (x ∷ xs) = cond (several x && q i) 1 0 + splitBy q (suc i) xs
 
 -- flags as a list of words; past its end there are none
 unfoldable pub flagOf : List ℕ → ℕ → Bool

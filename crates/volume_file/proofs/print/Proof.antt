@@ -14,14 +14,14 @@ same-length c = search needs
 returns : tie.Need-returns
 returns c = let s = c .before .before .before .before .before .before .before in answer-done (s .args .d) (s .args .triangles) (s .args .v) (c .before .before .before .before .before .if1 .taken) (record { sfits = c .before .before .before .struct-told .given .1 .0 .1 }) (c .before .before .put-lines .ensures)
 
-print-refusal-requires : tie.Need-print-refusal-requires
-print-refusal-requires c κs = search needs
+put-status-requires : tie.Need-put-status-requires
+put-status-requires c κs = search needs
 
 same-length-2 : tie.Need-same-length-2
 same-length-2 c = search needs
 
 returns-2 : tie.Need-returns-2
-returns-2 c = let s = c .before .before .before .before .before .before in answer-refused (s .args .d) (s .args .triangles) (s .args .v) (c .before .before .before .before .if1 .left) (c .before .before .print-refusal .ensures)
+returns-2 c = let s = c .before .before .before .before .before .before in answer-refused (s .args .d) (s .args .triangles) (s .args .v) (c .before .before .before .before .if1 .left) (c .before .before .put-status .ensures)
 
 pub print-spec : {M : Type 1} → statement M
 print-spec =
@@ -30,6 +30,6 @@ print-spec =
     put-lines-requires
     same-length
     returns
-    print-refusal-requires
+    put-status-requires
     same-length-2
     returns-2)

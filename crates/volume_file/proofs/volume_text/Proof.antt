@@ -28,14 +28,14 @@ slice-aggregate-build-file-6 c = search needs
 build-file-requires : tie.Need-build-file-requires
 build-file-requires c κs = search needs
 
-print-refusal-requires : tie.Need-print-refusal-requires
-print-refusal-requires c κs = search needs
+put-status-requires : tie.Need-put-status-requires
+put-status-requires c κs = search needs
 
 returns : tie.Need-returns
 returns c =
     let e = c .before .before in
     let b = e .before .before .before .before .before .before .before .before in
-    measured-refused _ _ _ _ _ _ refl (b .build-file .ensures) (e .if1 .taken) _ _ _ (c .before .print-refusal-arg .given .0 .1) (c .print-refusal .ensures)
+    measured-refused _ _ _ _ _ _ refl (b .build-file .ensures) (e .if1 .taken) _ _ _ (c .before .put-status-arg .given .0 .1) (c .put-status .ensures)
 
 mul-v : tie.Need-mul-v
 mul-v c =
@@ -102,7 +102,7 @@ volume-text-spec =
     slice-aggregate-build-file-5
     slice-aggregate-build-file-6
     build-file-requires
-    print-refusal-requires
+    put-status-requires
     returns
     mul-v
     mul-t

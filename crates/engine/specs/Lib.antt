@@ -1,0 +1,3 @@
+-- What the engine makes of a granted request.
+pub mod Engine
+pub mod Inner

@@ -1,0 +1,3 @@
+-- What a count file asks for.
+pub mod Asked
+pub mod Told

@@ -1,0 +1,2 @@
+-- What the phases of a build promise under their plain names.
+pub mod Promises

@@ -1,0 +1,2 @@
+-- How long the tables are that are printed.
+pub mod Lines
