@@ -6,7 +6,8 @@ use lib.Dec.{eqb}
 use lib.Ieee.{Float}
 use Rattle.laws.specs.Ranges.{each}
 use Rattle.samples.specs.declared.Sample.{Sample}
-use Rattle.samples.specs.Sides.{base, whenFinite}
+use Rattle.samples.specs.declared.Sample.the-variants.{Value}
+use Rattle.samples.specs.Sides.{base}
 use Rattle.marks.specs.Marks.{sample}
 use Rattle.topology.specs.Topology.{topologyOf, caseNumber}
 use Rattle.points.specs.declared.Frame.{Frame}
@@ -18,9 +19,9 @@ use Rattle.build.specs.Answer.{Lists, countsOf, BuildIn}
 unfoldable pub frameAt : List Float → Frame
 frameAt f = frameOf (record { x = sample f 0; y = sample f 1; z = sample f 2 }) (record { x = sample f 3; y = sample f 4; z = sample f 5 })
 
--- the values at the fourteen ends of a site; one that is not finite is missing
+-- the values at the fourteen ends of a site; to the topology test one that is not finite is missing
 unfoldable pub endsAt : List Float → List Sample
-endsAt l = each 14 (λ e. whenFinite (sample l e) ∷ [])
+endsAt l = each 14 (λ e. Value (sample l e) ∷ [])
 
 -- ---- the promises
 

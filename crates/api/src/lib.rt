@@ -8,7 +8,6 @@ use samples::Sample;
 use volume::Whole;
 ghost use mathlib.Core.Path.{_≡_};
 ghost use Prim.Native.Nat.{_<_};
-ghost use Rattle.samples.specs.Sides.{whenFinite};
 ghost use Rattle.marks.specs.Marks.{sample};
 ghost use Rattle.sort.specs.Order.{Sorts};
 ghost use Rattle.build.specs.Answer.{lists, countsOf};
@@ -90,21 +89,13 @@ pub extern "C" fn spoonthicket_build(
     answer.status
 }
 
-// A value that is not finite counts as missing.
-fn end_at(ends: &[f64; 14], e: usize) -> Sample
-    requires { ⌜ e < 14 ⌝ }
-    ensures { λ r. ⌜ r ≡ whenFinite (sample (now (ends .entry)) e) ⌝ }
-{
-    samples::finite_sample(ends[e])
-}
-
-// The fourteen of them, as the topology test takes them.
+// Fourteen values as the topology test takes them: to it, one that is not finite is missing.
 fn ends_at(ends: &[f64; 14]) -> [Sample; 14]
     ensures { λ r. ⌜ r ≡ endsAt (now (ends .entry)) ⌝ }
 {
     let mut known = [Sample::Missing; 14];
     for e in 0..14 {
-        known[e] = end_at(ends, e);
+        known[e] = Sample::Value(ends[e]);
     }
     known
 }

@@ -16,6 +16,7 @@ use Rattle.tables.proofs.Edges.{offset-eq, reverse-delta, label-delta, along, s
 use Rattle.lattice.specs.declared.Sides.{Sides}
 use Rattle.lattice.specs.declared.Uvw.{Uvw}
 use Rattle.lattice.specs.declared.Ijk.{Ijk}
+use Rattle.lattice.specs.declared.OtherEnd.{OtherEnd}
 use Rattle.lattice.specs.declared.OtherEnd.the-variants.{Missing, At}
 use Rattle.lattice.specs.Sites.{SidesFit, sites, inBox, InBox, siteOf, uvwOf, step, ijkOf}
 use Rattle.lattice.specs.Across.{upward, downward, acrossAt, acrossOf}
@@ -152,9 +153,17 @@ pub across-up : (n : Sides) (s e : ℕ) → e < 7 → acrossOf n s e ≡ upward 
 unfolding acrossOf acrossAt
 across-up n s e h = rw (lt-ltb e 7 h)
 
-pub across-down : (n : Sides) (s e : ℕ) → 7 ≤ e → acrossOf n s e ≡ downward n (uvwOf n s .u) (uvwOf n s .v) (uvwOf n s .w) (cornerOf (e - 7))
+pub across-down : (n : Sides) (s e : ℕ) → 7 ≤ e → e < 14 → acrossOf n s e ≡ downward n (uvwOf n s .u) (uvwOf n s .v) (uvwOf n s .w) (cornerOf (e - 7))
 unfolding acrossOf acrossAt
-across-down n s e h = rw (le-ltb e 7 h)
+across-down n s e h k = rw (le-ltb e 7 h, lt-ltb e 14 k)
+
+-- past the fourteen edges nothing lies across
+pub across-far : (n : Sides) (s e : ℕ) → 14 ≤ e → acrossOf n s e ≡ Missing
+unfolding acrossOf acrossAt
+across-far n s e h = rw (le-ltb e 7 (omega arith), le-ltb e 14 h)
+
+pub across-low : (n : Sides) (s e t : ℕ) → acrossOf n s e ≡ At t → e < 14
+across-low n s e t a = ⊎-elim (λ l. l) (λ l. let z : _≡_ {A = OtherEnd} Missing (At t) = sym (across-far n s e l) ∙ a in let y : _≡_ {A = ℕ} 0 1 = cc in omega arith) (lt-or e 14)
 
 -- for a site whose coordinates are at hand
 pub above-across : (n : Sides) (p : Uvw) (e : ℕ) → InBox n p → e < 7
@@ -164,6 +173,7 @@ above-across n p e b h =
 
 -- what lies across edge e of site s: the site t, the one above the other by the edge's corner
 pub record Joined (n : Sides) (s e t : ℕ) : Type 0 where
+  pub label : e < 14
   pub inside : t < sites n
   pub rises : e < 7 → Above n (uvwOf n s) (uvwOf n t) (cornerOf e)
   pub falls : 7 ≤ e → Above n (uvwOf n t) (uvwOf n s) (cornerOf (e - 7))
@@ -177,6 +187,7 @@ across-joined n s e t f h a = ⊎-elim (λ l. low l) (λ l. high l) (lt-or e 7)
         let r = up-found n p (cornerOf e) t (sym (across-up n s e l) ∙ a) in
         let q : uvwOf n t ≡ stepped p (cornerOf e) = ap (uvwOf n) (sym (r .1)) ∙ uvw-site n (stepped p (cornerOf e)) (r .0 .box) in
         record {
+          label = across-low n s e t a;
           inside = subst (λ (x : ℕ). x < sites n) (r .1) (site-lt n (stepped p (cornerOf e)) (r .0 .box));
           rises = λ k. subst (λ (x : Uvw). Above n p x (cornerOf e)) (sym q) (r .0);
           falls = λ k. absurd (omega arith);
@@ -185,9 +196,10 @@ across-joined n s e t f h a = ⊎-elim (λ l. low l) (λ l. high l) (lt-or e 7)
     high : 7 ≤ e → Joined n s e t
     high l =
         let p = uvwOf n s in
-        let r = down-found n p (cornerOf (e - 7)) t (uvw-box n f s h) (sym (across-down n s e l) ∙ a) in
+        let r = down-found n p (cornerOf (e - 7)) t (uvw-box n f s h) (sym (across-down n s e l (across-low n s e t a)) ∙ a) in
         let q : uvwOf n t ≡ lowered p (cornerOf (e - 7)) = ap (uvwOf n) (sym (r .2)) ∙ uvw-site n (lowered p (cornerOf (e - 7))) (r .1) in
         record {
+          label = across-low n s e t a;
           inside = subst (λ (x : ℕ). x < sites n) (r .2) (site-lt n (lowered p (cornerOf (e - 7))) (r .1));
           rises = λ k. absurd (omega arith);
           falls = λ k. subst (λ (x : Uvw). Above n x p (cornerOf (e - 7))) (sym q) (r .0);
@@ -196,7 +208,7 @@ across-joined n s e t f h a = ⊎-elim (λ l. low l) (λ l. high l) (lt-or e 7)
 pub joined-across : (n : Sides) (s e t : ℕ) → Joined n s e t → acrossOf n s e ≡ At t
 joined-across n s e t j =
     ⊎-elim (λ l. across-up n s e l ∙ up-finds n (uvwOf n s) (uvwOf n t) (cornerOf e) (j .rises l) ∙ ap At (site-uvw n t))
-    (λ l. across-down n s e l ∙ down-finds n (uvwOf n t) (uvwOf n s) (cornerOf (e - 7)) (j .falls l) ∙ ap At (site-uvw n t)) (lt-or e 7)
+    (λ l. across-down n s e l (j .label) ∙ down-finds n (uvwOf n t) (uvwOf n s) (cornerOf (e - 7)) (j .falls l) ∙ ap At (site-uvw n t)) (lt-or e 7)
 
 -- the way back
 pub across-back : (n : Sides) (s e t : ℕ) → SidesFit n → s < sites n → e < 14 → acrossOf n s e ≡ At t → acrossOf n t (reverse e) ≡ At s
@@ -209,12 +221,12 @@ across-back n s e t f h k a =
     low j l =
         let r : (e + 7) % 14 ≡ e + 7 = omega arith in
         let c : (e + 7) % 14 - 7 ≡ e = omega arith in
-        record { inside = h; rises = λ m. absurd (omega arith); falls = λ m. rw c (j .rises l) }
+        record { label = omega arith; inside = h; rises = λ m. absurd (omega arith); falls = λ m. rw c (j .rises l) }
 
     high : Joined n s e t → 7 ≤ e → Joined n t (reverse e) s
     high j l =
         let c : (e + 7) % 14 ≡ e - 7 = omega arith in
-        record { inside = h; rises = λ m. rw c (j .falls l); falls = λ m. absurd (omega arith) }
+        record { label = omega arith; inside = h; rises = λ m. rw c (j .falls l); falls = λ m. absurd (omega arith) }
 
 -- ---- the number of what lies above: a constant for each label
 
@@ -281,6 +293,7 @@ offset-above n p q c b e =
 pub offset-across : (n : Sides) (s e t : ℕ) → SidesFit n → s < sites n → t < sites n → e < 14 → fromTo (ijkAt n s) (ijkAt n t) ≡ delta e → acrossOf n s e ≡ At t
 offset-across n s e t f hs ht k d =
     joined-across n s e t (record {
+      label = k;
       inside = ht;
       rises = λ l. offset-above n (uvwOf n s) (uvwOf n t) (cornerOf e) (uvw-box n f t ht) (d ∙ label-delta e l);
       falls = λ l. offset-above n (uvwOf n t) (uvwOf n s) (cornerOf (e - 7)) (uvw-box n f s hs)

@@ -1,4 +1,4 @@
--- The site across an edge: labels 0 to 6 lead up to a corner of the site's cell, labels 7 to 13 lead back the same way. Assumes nothing.
+-- The site across an edge: labels 0 to 6 lead up to a corner of the site's cell, labels 7 to 13 lead back the same way, and no other label leads anywhere. Assumes nothing.
 use mathlib.Core.Bool.{_&&_, cond}
 use Prim.Native.Nat.{ℕ, _-_}
 use lib.Dec.{ltb, leb}
@@ -19,7 +19,7 @@ downward n u v w c =
     cond (leb (du c) u && leb (dv c) v && leb (dw c) w) (At (siteOf n (u - du c) (v - dv c) (w - dw c))) Missing
 
 unfoldable pub acrossAt : Sides → ℕ → ℕ → ℕ → ℕ → OtherEnd
-acrossAt n u v w e = cond (ltb e 7) (upward n u v w (cornerOf e)) (downward n u v w (cornerOf (e - 7)))
+acrossAt n u v w e = cond (ltb e 7) (upward n u v w (cornerOf e)) (cond (ltb e 14) (downward n u v w (cornerOf (e - 7))) Missing)
 
 -- by the site's number
 unfoldable pub acrossOf : Sides → ℕ → ℕ → OtherEnd

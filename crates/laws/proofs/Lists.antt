@@ -132,6 +132,12 @@ module _ {A : Type 0} where
     sym (drop-at x r (length y) h) ∙ ap (drop (length y)) e ∙ drop-at y t (length y) refl,
   )
 
+  -- an entry that is there, whatever would stand for one that is not
+  pub getD-there : (l : List A) (i : ℕ) (d d′ : A) → i < length l → getD l i d ≡ getD l i d′
+  getD-there [] i d d′ h = absurd (not-suc-le-zero h)
+  getD-there (x ∷ l) zero d d′ h = refl
+  getD-there (x ∷ l) (suc i) d d′ h = getD-there l i d d′ (le-of-suc-le-suc h)
+
   pub drop-replicate : (k n : ℕ) (a : A) → drop k (replicate n a) ≡ replicate (n - k) a
   drop-replicate zero n a = let e : n - 0 ≡ n = omega arith in rw e
   drop-replicate (suc k) zero a = let e : 0 - suc k ≡ 0 = omega arith in rw e

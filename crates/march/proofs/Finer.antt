@@ -140,37 +140,37 @@ module _ (F : Field) (g : ℕ → ℕ → ℕ) (r : ℕ → ℕ) (keeps : r none
 
 -- ---- the same for edge tables
 
-table-look : (edges : List ℕ) (e : ℕ) → byEdge (λ i l. getD edges (7 * i + l) 0) e ≡ getD edges e 0
+table-look : (edges : List ℕ) (e : ℕ) → byEdge (λ i l. getD edges (7 * i + l) none) e ≡ getD edges e none
 unfolding byEdge
-table-look edges e = let q : 7 * (e / 7) + e % 7 ≡ e = omega arith in ap (λ (j : ℕ). getD edges j 0) q
+table-look edges e = let q : 7 * (e / 7) + e % 7 ≡ e = omega arith in ap (λ (j : ℕ). getD edges j none) q
 
-table-field : (n : Sides) (s : List Float) (h : Float) (edges edges′ : List ℕ) → fieldOf n s h edges′ ≡ renamed (fieldOf n s h edges) (λ i l. getD edges′ (7 * i + l) 0)
+table-field : (n : Sides) (s : List Float) (h : Float) (edges edges′ : List ℕ) → fieldOf n s h edges′ ≡ renamed (fieldOf n s h edges) (λ i l. getD edges′ (7 * i + l) none)
 unfolding fieldOf renamed
 table-field n s h edges edges′ = refl
 
 module _ (n : Sides) (s : List Float) (h : Float) (fine coarse : List ℕ) where
-  table-finer : Finer (7 * sites n) (λ e. getD fine e 0) (λ e. getD coarse e 0)
-      → Finer (7 * sites n) (byEdge (λ i l. getD fine (7 * i + l) 0)) (byEdge (λ i l. getD coarse (7 * i + l) 0))
+  table-finer : Finer (7 * sites n) (λ e. getD fine e none) (λ e. getD coarse e none)
+      → Finer (7 * sites n) (byEdge (λ i l. getD fine (7 * i + l) none)) (byEdge (λ i l. getD coarse (7 * i + l) none))
   table-finer R = record {
     same = λ d e hd he q. table-look coarse d ∙ R .same d e hd he (sym (table-look fine d) ∙ q ∙ table-look fine e) ∙ sym (table-look coarse e);
     gone = λ e he q. table-look coarse e ∙ R .gone e he (sym (table-look fine e) ∙ q);
   }
 
   -- The triangles of edges that the march over the coarser table keeps are among those that it keeps over the finer one, in their order.
-  pub table-kept : Finer (7 * sites n) (λ e. getD fine e 0) (λ e. getD coarse e 0)
-      → keptEdges (fieldOf n s h coarse) ≡ keep (passes (λ i l. getD coarse (7 * i + l) 0)) (keptEdges (fieldOf n s h fine))
+  pub table-kept : Finer (7 * sites n) (λ e. getD fine e none) (λ e. getD coarse e none)
+      → keptEdges (fieldOf n s h coarse) ≡ keep (passes (λ i l. getD coarse (7 * i + l) none)) (keptEdges (fieldOf n s h fine))
   unfolding fieldOf renamed
-  table-kept R = finer-kept (fieldOf n s h fine) (λ i l. getD fine (7 * i + l) 0) (λ i l. getD coarse (7 * i + l) 0) (table-finer R)
+  table-kept R = finer-kept (fieldOf n s h fine) (λ i l. getD fine (7 * i + l) none) (λ i l. getD coarse (7 * i + l) none) (table-finer R)
 
-  pub table-longer : Finer (7 * sites n) (λ e. getD fine e 0) (λ e. getD coarse e 0) → length (march (fieldOf n s h coarse)) ≤ length (march (fieldOf n s h fine))
+  pub table-longer : Finer (7 * sites n) (λ e. getD fine e none) (λ e. getD coarse e none) → length (march (fieldOf n s h coarse)) ≤ length (march (fieldOf n s h fine))
   unfolding fieldOf renamed
-  table-longer R = finer-longer (fieldOf n s h fine) (λ i l. getD fine (7 * i + l) 0) (λ i l. getD coarse (7 * i + l) 0) (table-finer R)
+  table-longer R = finer-longer (fieldOf n s h fine) (λ i l. getD fine (7 * i + l) none) (λ i l. getD coarse (7 * i + l) none) (table-finer R)
 
   -- tables that agree on the edges of the box
-  pub table-same : ((e : ℕ) → e < 7 * sites n → getD fine e 0 ≡ getD coarse e 0) → march (fieldOf n s h fine) ≡ march (fieldOf n s h coarse)
+  pub table-same : ((e : ℕ) → e < 7 * sites n → getD fine e none ≡ getD coarse e none) → march (fieldOf n s h fine) ≡ march (fieldOf n s h coarse)
   unfolding fieldOf
   table-same q =
       let F = fieldOf n s h fine in
       ap march (table-field n s h fine fine)
-      ∙ march-same F (λ i l. getD fine (7 * i + l) 0) (λ i l. getD coarse (7 * i + l) 0) (λ e b. table-look fine e ∙ q e b ∙ sym (table-look coarse e))
+      ∙ march-same F (λ i l. getD fine (7 * i + l) none) (λ i l. getD coarse (7 * i + l) none) (λ e b. table-look fine e ∙ q e b ∙ sym (table-look coarse e))
       ∙ sym (ap march (table-field n s h fine coarse))

@@ -157,7 +157,7 @@ pub look-is : (n : Sides) (s : List Float) (h : Float) (edges : List ℕ) (u v w
 unfolding lookUp vertexIn vertexAt fieldOf
 look-is n s h edges u v w = fun-ext (λ x.
     let d = steps-lt (x / 7) in
-    ap (λ (i : ℕ). getD edges (7 * i + x % 7) 0)
+    ap (λ (i : ℕ). getD edges (7 * i + x % 7) none)
     (sym (site-steps n u v w (du (x / 7)) (dv (x / 7)) (dw (x / 7)) (d .0) (d .1) (d .2))))
 
 -- the owner and label are in the table

@@ -18,7 +18,7 @@ use Rattle.lattice.specs.declared.Sides.{Sides}
 use Rattle.lattice.specs.Sites.{sites, cells, siteOf}
 use Rattle.lattice.proofs.Sites.{layer-most, sites-most}
 use Rattle.samples.specs.Sides.{inside, finite}
-use Rattle.march.specs.March.{Field, siteTris, slab, march}
+use Rattle.march.specs.March.{Field, none, siteTris, slab, march}
 use Rattle.cases.specs.Inner.Codes.{codesOf, codeSum}
 use Rattle.march.specs.Lists.{fieldOf, deep, layers}
 use Rattle.march.specs.Inner.Loop.{lookUp, cellFlat, rowFlat, InTable, Lent, Lends}
@@ -105,9 +105,9 @@ tail-field n s h edges w m =
     fun-ext (λ i. ap finite (getD-drop a s i nan ∙ ap (λ (j : ℕ). getD s j nan) (at i))) in
     let g : _≡_ {A = ℕ → Bool} (λ i. inside (getD (drop a s) i nan) h) (λ i. inside (getD s (n .nu * n .nv * w + i) nan) h) =
     fun-ext (λ i. ap (λ (x : Float). inside x h) (getD-drop a s i nan ∙ ap (λ (j : ℕ). getD s j nan) (at i))) in
-    let k : _≡_ {A = ℕ → ℕ → ℕ} (λ i l. getD (drop (7 * a) edges) (7 * i + l) 0) (λ i l. getD edges (7 * (n .nu * n .nv * w + i) + l) 0) =
+    let k : _≡_ {A = ℕ → ℕ → ℕ} (λ i l. getD (drop (7 * a) edges) (7 * i + l) none) (λ i l. getD edges (7 * (n .nu * n .nv * w + i) + l) none) =
     fun-ext (λ i. fun-ext (λ l.
-    getD-drop (7 * a) edges (7 * i + l) 0 ∙ ap (λ (j : ℕ). getD edges j 0) (shift a i l ∙ ap (λ (x : ℕ). 7 * x + l) (at i)))) in
+    getD-drop (7 * a) edges (7 * i + l) none ∙ ap (λ (j : ℕ). getD edges j none) (shift a i l ∙ ap (λ (x : ℕ). 7 * x + l) (at i)))) in
     λ j. record { box = deep n m; finite = f j; side = g j; vertex = k j }
   where
     shift : (a i l : ℕ) → 7 * a + (7 * i + l) ≡ 7 * (a + i) + l

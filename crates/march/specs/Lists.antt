@@ -5,15 +5,15 @@ use lib.ListN.{getD}
 use lib.Ieee.{Float, nan}
 use Rattle.samples.specs.Sides.{inside, finite}
 use Rattle.lattice.specs.declared.Sides.{Sides}
-use Rattle.march.specs.March.{Field}
+use Rattle.march.specs.March.{Field, none}
 
--- the field of a sample list and an edge table, for a threshold
+-- the field of a sample list and an edge table, for a threshold; past the table an edge has no vertex
 unfoldable pub fieldOf : Sides → List Float → Float → List ℕ → Field
 fieldOf n s h edges = record {
   box = n;
   finite = λ i. finite (getD s i nan);
   side = λ i. inside (getD s i nan) h;
-  vertex = λ i l. getD edges (7 * i + l) 0;
+  vertex = λ i l. getD edges (7 * i + l) none;
 }
 
 -- a box of m layers as wide and as deep

@@ -22,8 +22,13 @@ finite nan = false
 finite (inf s) = false
 finite (fin s m e) = true
 
+-- a value that is not finite counts as missing where only finite ones are asked for
 unfoldable pub whenFinite : Float → Sample
 whenFinite x = cond (finite x) (Value x) Missing
+
+unfoldable pub known : Sample → Sample
+known Missing = Missing
+known (Value x) = whenFinite x
 
 -- the fraction of a mark, and that of a point: each may move without the other
 unfoldable pub markFraction : Float → Float → Float

@@ -1,7 +1,7 @@
 // Samples: which side of the surface a value is on, whether it is finite, and where the surface crosses an edge.
 // The threshold h is a parameter of every function that asks for a side.
 ghost use mathlib.Core.Path.{_≡_};
-ghost use Rattle.samples.specs.Sides.{inside, finite, markFraction, pointFraction, crossing, isNear, whenFinite};
+ghost use Rattle.samples.specs.Sides.{inside, finite, markFraction, pointFraction, crossing, whenFinite};
 
 // Inside means below -INSIDE where nobody chose another threshold.
 pub const INSIDE: f64 = 1.0e-9;
@@ -66,15 +66,4 @@ pub fn crossing_alpha(a: f64, b: f64, h: f64) -> Crossing
         return Crossing::SameSide;
     }
     Crossing::At(mark_fraction(a, b))
-}
-
-// Whether the edge from a to b is crossed nearer to a than to b.
-pub fn is_near(a: f64, b: f64, h: f64) -> bool
-    ensures { λ r. ⌜ r ≡ isNear a b h ⌝ }
-{
-    let c = crossing_alpha(a, b, h);
-    match c {
-        Crossing::SameSide => false,
-        Crossing::At(t) => t < 0.5,
-    }
 }

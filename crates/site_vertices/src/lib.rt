@@ -19,7 +19,7 @@ ghost use Rattle.stages.specs.Samples.{endBy, endsOf, placeOf};
 ghost use Rattle.site_vertices.specs.Inner.Drawing.{joinEdge, claimEdge, Drawable, ClusterDrawn, VertexPut};
 ghost use Rattle.site_vertices.specs.Inner.Appending.{Appended, Space, single, singlesOf};
 
-// The finite sample at the other end of an edge.
+// The sample at the other end of an edge.
 fn end_at(n: Sides, samples: &[f64], s: usize, e: usize) -> Sample
     requires { ⌜ Sampled n (now samples) × (s < sites n) × (e < 14) ⌝ }
     ensures { λ r. ⌜ r ≡ endBy (now (samples .entry)) (acrossOf n s e) ⌝ }
@@ -27,7 +27,7 @@ fn end_at(n: Sides, samples: &[f64], s: usize, e: usize) -> Sample
     let end = lattice::across(n, s, e);
     match end {
         OtherEnd::Missing => Sample::Missing,
-        OtherEnd::At(t) => samples::finite_sample(samples[t]),
+        OtherEnd::At(t) => Sample::Value(samples[t]),
     }
 }
 

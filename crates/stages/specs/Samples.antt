@@ -11,8 +11,8 @@ use Rattle.laws.specs.Ranges.{each, sum}
 use Rattle.laws.specs.Lists.{keep}
 use Rattle.laws.specs.Digits.{isSet}
 use Rattle.samples.specs.declared.Sample.{Sample}
-use Rattle.samples.specs.declared.Sample.the-variants as known
-use Rattle.samples.specs.Sides.{inside, finite, whenFinite}
+use Rattle.samples.specs.declared.Sample.the-variants as at
+use Rattle.samples.specs.Sides.{inside, finite}
 use Rattle.lattice.specs.declared.Sides.{Sides}
 use Rattle.lattice.specs.declared.OtherEnd.{OtherEnd}
 use Rattle.lattice.specs.declared.OtherEnd.the-variants as end
@@ -29,10 +29,10 @@ use Rattle.points.specs.Means.{meanOf}
 use Rattle.stages.specs.Boxes.{Box}
 use Rattle.stages.specs.Meshes.{numbers}
 
--- the sample at the other end of an edge, where there is one and it is finite
+-- the sample at the other end of an edge, where there is one
 unfoldable pub endBy : List Float → OtherEnd → Sample
-endBy S end.Missing = known.Missing
-endBy S (end.At t) = whenFinite (sample S t)
+endBy S end.Missing = at.Missing
+endBy S (end.At t) = at.Value (sample S t)
 
 unfoldable pub endsOf : Sides → List Float → ℕ → List Sample
 endsOf n S s = each 14 (λ e. endBy S (acrossOf n s e) ∷ [])

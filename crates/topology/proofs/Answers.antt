@@ -23,7 +23,7 @@ use Rattle.topology.specs.declared.TopologyCase.the-variants.{ClosedSurf
 use Rattle.topology.specs.declared.TopologyResult.{TopologyResult}
 use Rattle.topology.specs.Parts.{low, Component, Ascending, Parts, Partition}
 use Rattle.topology.specs.Walk.{fourteen, components, componentsOf}
-use Rattle.topology.specs.Flat.{pairsCollapse, rowFlat, isFlat}
+use Rattle.topology.specs.Flat.{endAt, pairsCollapse, rowFlat, isFlat}
 use Rattle.topology.specs.Topology.{Kind, empty, closed, surfaces, holes, single, kindOf, caseBy, singles, clustersIn, result, caseOf, topologyOf, isSingle, asksEnds}
 use Rattle.topology.proofs.Parts.{components-parts, parts-unique}
 use Rattle.topology.proofs.WalkLoops.{components-le}
@@ -180,14 +180,14 @@ depends-ends near cluster ends ends′ h h′ e =
     ap (λ (c : TopologyCase). result c (clustersIn c (fourteen near)))
     (unasked (kindOf (fourteen near)) cluster (isFlat (fourteen near) ends h) (isFlat (fourteen near) ends′ h′) e)
 
--- and of these only the fourteen
-flat-ends : (m : ℕ) (ends ends′ : List Sample) (h : Float) → ((e : ℕ) → e < 14 → getD ends e Missing ≡ getD ends′ e Missing) → isFlat m ends h ≡ isFlat m ends′ h
+-- and of these only the fourteen, where they are finite
+flat-ends : (m : ℕ) (ends ends′ : List Sample) (h : Float) → ((e : ℕ) → e < 14 → endAt ends e ≡ endAt ends′ e) → isFlat m ends h ≡ isFlat m ends′ h
 unfolding isFlat rowFlat pairsCollapse
 flat-ends m ends ends′ h same =
     any-same 36 (λ i. rowFlat m ends h (flatHole i)) (λ i. rowFlat m ends′ h (flatHole i))
     (λ i l. let e = row-edges i l in rw (same (off i .first) (e .0 .0), same (off i .second) (e .0 .1), same (on i .first) (e .1 .0), same (on i .second) (e .1 .1)))
 
-pub depends-fourteen : (near : ℕ) (cluster : Bool) (ends ends′ : List Sample) (h : Float) → ((e : ℕ) → e < 14 → getD ends e Missing ≡ getD ends′ e Missing)
+pub depends-fourteen : (near : ℕ) (cluster : Bool) (ends ends′ : List Sample) (h : Float) → ((e : ℕ) → e < 14 → endAt ends e ≡ endAt ends′ e)
     → topologyOf near cluster ends h ≡ topologyOf near cluster ends′ h
 unfolding topologyOf caseOf
 depends-fourteen near cluster ends ends′ h same = rw (flat-ends (fourteen near) ends ends′ h same)

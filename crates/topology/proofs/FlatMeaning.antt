@@ -24,7 +24,7 @@ use Rattle.tables.proofs.FlatHoles.{flat-36}
 use Rattle.samples.specs.declared.Sample.{Sample}
 use Rattle.samples.specs.declared.Sample.the-variants.{Missing, Value}
 use Rattle.topology.specs.Walk.{lowBit}
-use Rattle.topology.specs.Flat.{twoEdges, collapses, collapsesAt, pairsCollapse, rowFlat, isFlat, Collapse}
+use Rattle.topology.specs.Flat.{twoEdges, collapses, collapsesAt, endAt, pairsCollapse, rowFlat, isFlat, Collapse}
 use Rattle.topology.proofs.Rows.{off, on, row-edges, both-on, four}
 
 -- ---- from a row
@@ -212,7 +212,7 @@ collapse-flat m ends h k =
     let flat : rowFlat m ends h (holeOf a b) ≡ true =
     both-on m ends h (holeOf a b) (none-in m (2 ^ a + 2 ^ b) a b pl edges (k .far .0) (k .far .1)) (all-in m (opposite a b) c d ol opp (k .near .0) (k .near .1))
     ∙ four ends h (twoEdges (2 ^ a + 2 ^ b)) (twoEdges (opposite a b)) (Value (k .va)) (Value (k .vb)) (Value (k .vc)) (Value (k .vd))
-    (ap (λ (x : ℕ). getD ends x Missing) (ne .0) ∙ k .at-a) (ap (λ (x : ℕ). getD ends x Missing) (ne .1) ∙ k .at-b)
-    (ap (λ (x : ℕ). getD ends x Missing) (no .0) ∙ k .at-c) (ap (λ (x : ℕ). getD ends x Missing) (no .1) ∙ k .at-d)
+    (ap (endAt ends) (ne .0) ∙ k .at-a) (ap (endAt ends) (ne .1) ∙ k .at-b)
+    (ap (endAt ends) (no .0) ∙ k .at-c) (ap (endAt ends) (no .1) ∙ k .at-d)
     ∙ k .falls in
     any-some 36 (λ i. rowFlat m ends h (flatHole i)) (row .0) (row .1) (ap (rowFlat m ends h) (row .2) ∙ flat)

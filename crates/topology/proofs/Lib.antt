@@ -7,4 +7,5 @@ pub mod Singles
 pub mod Cases
 pub mod Others
 pub mod Answers
+pub mod Ends
 pub mod FlatMeaning

@@ -21,7 +21,7 @@ use Rattle.samples.specs.declared.Sample.{Sample}
 use Rattle.samples.specs.declared.Sample.the-variants.{Missing}
 use Rattle.topology.specs.declared.TwoEdges.{TwoEdges}
 use Rattle.topology.specs.Walk.{lowBit}
-use Rattle.topology.specs.Flat.{twoEdges, collapsesAt, pairsCollapse, rowFlat, isFlat}
+use Rattle.topology.specs.Flat.{twoEdges, collapsesAt, endAt, pairsCollapse, rowFlat, isFlat}
 
 -- ---- the edges of a row are among the fourteen
 
@@ -48,8 +48,8 @@ edges-lt i l o n eo en = let e = row-edges i l in rw (eo, en) (e .0 .0, e .0 .1,
 
 -- ---- the four samples of a row
 
-pub four : (ends : List Sample) (h : Float) (o n : TwoEdges) (a b c d : Sample) → getD ends (o .first) Missing ≡ a → getD ends (o .second) Missing ≡ b
-    → getD ends (n .first) Missing ≡ c → getD ends (n .second) Missing ≡ d → pairsCollapse ends h o n ≡ collapsesAt a b c d h
+pub four : (ends : List Sample) (h : Float) (o n : TwoEdges) (a b c d : Sample) → endAt ends (o .first) ≡ a → endAt ends (o .second) ≡ b
+    → endAt ends (n .first) ≡ c → endAt ends (n .second) ≡ d → pairsCollapse ends h o n ≡ collapsesAt a b c d h
 unfolding pairsCollapse
 four ends h o n a b c d ea eb ec ed = rw (ea, eb, ec, ed)
 

@@ -13,7 +13,7 @@ use Rattle.tables.specs.Edges.{areNeighbours, neighbourMask}
 use Rattle.tables.specs.FlatHoles.{holeOf, flatHoles, flatHole}
 use Rattle.samples.specs.declared.Sample.{Sample}
 use Rattle.samples.specs.declared.Sample.the-variants.{Missing, Value}
-use Rattle.samples.specs.Sides.{base, inside, markFraction, crossing, isNear}
+use Rattle.samples.specs.Sides.{base, inside, finite, whenFinite, known, markFraction, crossing, isNear}
 use Rattle.topology.specs.declared.TopologyCase.the-variants.{ClosedSurface, MultiHole, FlatHole, MultiSurface, SimpleSurface}
 use Rattle.topology.specs.declared.TopologyResult.{TopologyResult}
 use Rattle.topology.specs.Walk.{lowBit, found, remTurn, frTurn, compTurn, walk, first, componentsIn, components}
@@ -53,5 +53,5 @@ table =
     ∷ []
 
 pub examples : map (λ (l : Line). topologyOf (l .mask) true (l .ends) base) table ≡ map (λ (l : Line). l .says) table
-unfolding topologyOf caseOf kindOf singles isFlat rowFlat pairsCollapse collapsesAt collapses components componentsIn first walk remTurn frTurn compTurn found lowBit neighbourMask areNeighbours flatHole flatHoles holeOf isNear crossing inside markFraction any each isSet digit mask bit trailingZeros lt neg sub div ofBits table
+unfolding topologyOf caseOf kindOf singles isFlat rowFlat pairsCollapse known whenFinite finite collapsesAt collapses components componentsIn first walk remTurn frTurn compTurn found lowBit neighbourMask areNeighbours flatHole flatHoles holeOf isNear crossing inside markFraction any each isSet digit mask bit trailingZeros lt neg sub div ofBits table
 examples = refl

@@ -16,7 +16,7 @@ use Rattle.tables.specs.declared.FlatHole.{FlatHole}
 use Rattle.tables.specs.FlatHoles.{flatHole}
 use Rattle.samples.specs.declared.Sample.{Sample}
 use Rattle.samples.specs.declared.Sample.the-variants.{Missing, Value}
-use Rattle.samples.specs.Sides.{isNear}
+use Rattle.samples.specs.Sides.{known, isNear}
 use Rattle.topology.specs.declared.TwoEdges.{TwoEdges}
 use Rattle.topology.specs.Parts.{low}
 use Rattle.topology.specs.Walk.{lowBit}
@@ -29,7 +29,7 @@ twoEdges m = record { first = low m; second = low (bitXor m (lowBit m)) }
 unfoldable pub collapses : Float → Float → Float → Float → Float → Bool
 collapses a b c d h = (isNear a d h && isNear a c h) || (isNear b d h && isNear b c h)
 
--- where one of the four is missing, they say nothing
+-- where one of the four is missing or not finite, they say nothing
 unfoldable pub collapsesAt : Sample → Sample → Sample → Sample → Float → Bool
 collapsesAt (Value a) (Value b) (Value c) (Value d) h = collapses a b c d h
 collapsesAt Missing b c d h = false
@@ -37,9 +37,13 @@ collapsesAt (Value a) Missing c d h = false
 collapsesAt (Value a) (Value b) Missing d h = false
 collapsesAt (Value a) (Value b) (Value c) Missing h = false
 
+-- the sample at the end of an edge, where there is one and it is finite
+abbrev pub endAt : List Sample → ℕ → Sample
+endAt ends e = known (getD ends e Missing)
+
 unfoldable pub pairsCollapse : List Sample → Float → TwoEdges → TwoEdges → Bool
 pairsCollapse ends h off on =
-    collapsesAt (getD ends (off .first) Missing) (getD ends (off .second) Missing) (getD ends (on .first) Missing) (getD ends (on .second) Missing) h
+    collapsesAt (endAt ends (off .first)) (endAt ends (off .second)) (endAt ends (on .first)) (endAt ends (on .second)) h
 
 -- a row of Table 4: the mask has neither of its edges and both of the opposite ones
 unfoldable pub rowFlat : ℕ → List Sample → Float → FlatHole → Bool
@@ -67,8 +71,8 @@ pub record Collapse (m : ℕ) (ends : List Sample) (h : Float) : Type 0 where
   pub vb : Float
   pub vc : Float
   pub vd : Float
-  pub at-a : getD ends a Missing ≡ Value va
-  pub at-b : getD ends b Missing ≡ Value vb
-  pub at-c : getD ends c Missing ≡ Value vc
-  pub at-d : getD ends d Missing ≡ Value vd
+  pub at-a : endAt ends a ≡ Value va
+  pub at-b : endAt ends b ≡ Value vb
+  pub at-c : endAt ends c ≡ Value vc
+  pub at-d : endAt ends d ≡ Value vd
   pub falls : collapses va vb vc vd h ≡ true

@@ -1,10 +1,12 @@
 // The topology test of a site: which of the intersections near it may share a vertex.
 ghost use Prim.Native.Nat.{_<_};
 ghost use mathlib.Core.Path.{_≡_};
+ghost use Rattle.samples.specs.Sides.{known, isNear};
 ghost use Rattle.topology.specs.Walk.{lowBit, componentsOf};
 ghost use Rattle.topology.specs.Flat.{twoEdges, collapses, pairsCollapse, isFlat};
 ghost use Rattle.topology.specs.Topology.{singles, clustersOf, topologyOf, caseNumber};
 ghost use mathlib.Core.List.{[], _∷_};
+use samples::Crossing;
 use samples::Sample;
 use tables::ALL14_MASK;
 use tables::FLAT_HOLES;
@@ -98,16 +100,37 @@ fn two_edge_indices(mask: u16) -> TwoEdges
     TwoEdges { first, second }
 }
 
+// Whether the surface crosses the edge from a to b nearer to a. At a fraction of 0.5 or NaN it does not.
+fn is_near(a: f64, b: f64, h: f64) -> bool
+    ensures { λ r. ⌜ r ≡ isNear a b h ⌝ }
+{
+    let c = samples::crossing_alpha(a, b, h);
+    match c {
+        Crossing::SameSide => false,
+        Crossing::At(t) => t < 0.5,
+    }
+}
+
 // Of the values at four ends: the crossings from a to c and d are both near a, or those from b both near b.
 fn would_collapse(a: f64, b: f64, c: f64, d: f64, h: f64) -> bool
     ensures { λ r. ⌜ r ≡ collapses a b c d h ⌝ }
 {
-    let near_a = samples::is_near(a, d, h) && samples::is_near(a, c, h);
-    let near_b = samples::is_near(b, d, h) && samples::is_near(b, c, h);
+    let near_a = is_near(a, d, h) && is_near(a, c, h);
+    let near_b = is_near(b, d, h) && is_near(b, c, h);
     near_a || near_b
 }
 
-// The same for the ends of edges with and without an intersection near the site: where one of the four is missing, they say nothing.
+// The value at the end of an edge, where there is one and it is finite.
+fn endpoint_value(end: Sample) -> Sample
+    ensures { λ r. ⌜ r ≡ known end ⌝ }
+{
+    match end {
+        Sample::Missing => Sample::Missing,
+        Sample::Value(v) => samples::finite_sample(v),
+    }
+}
+
+// The same for the ends of edges with and without an intersection near the site: where one of the four is missing or not finite, they say nothing.
 fn pairs_collapse(ends: [Sample; 14], off: TwoEdges, on: TwoEdges, h: f64) -> bool
     requires { ⌜ (off .first < 14) × (off .second < 14) × (on .first < 14) × (on .second < 14) ⌝ }
     ensures { λ r. ⌜ r ≡ pairsCollapse ends h off on ⌝ }
@@ -116,10 +139,10 @@ fn pairs_collapse(ends: [Sample; 14], off: TwoEdges, on: TwoEdges, h: f64) -> bo
     let b = off.second;
     let c = on.first;
     let d = on.second;
-    let a_end = ends[a];
-    let b_end = ends[b];
-    let c_end = ends[c];
-    let d_end = ends[d];
+    let a_end = endpoint_value(ends[a]);
+    let b_end = endpoint_value(ends[b]);
+    let c_end = endpoint_value(ends[c]);
+    let d_end = endpoint_value(ends[d]);
     let Sample::Value(a_val) = a_end else {
         return false;
     };
@@ -196,7 +219,7 @@ fn one_cluster(edge_mask: u16) -> Clusters
 }
 
 // The case of a site and its clusters: the mask of its near intersections, whether to cluster, and the samples at the other ends
-// of its edges, in which one that is not finite counts as missing.
+// of its edges. One that is not finite counts as missing.
 pub fn test_topology(near_mask: u16, cluster: bool, ends: [Sample; 14], h: f64) -> TopologyResult
     ensures { λ r. ⌜ r ≡ topologyOf «near_mask» cluster ends h ⌝ }
 {

@@ -19,27 +19,27 @@ fn next(x: u64) -> u64 {
     std::num::wrapping_add_u64(product, 1442695040888963407)
 }
 
-// What the generator's top five bits stand for; a value that is not finite counts as missing.
+// What the generator's top five bits stand for.
 fn sample(top: u64) -> Sample {
     match top {
-        0 | 6 | 14 | 27 => samples::finite_sample(1.0),
-        1 | 7 | 15 => samples::finite_sample(-1.0),
-        2 | 8 | 16 => samples::finite_sample(3.0),
-        3 | 9 | 17 => samples::finite_sample(-3.0),
-        4 | 10 | 18 => samples::finite_sample(0.5),
-        5 | 11 | 19 => samples::finite_sample(-0.5),
-        12 => samples::finite_sample(2.0),
-        13 => samples::finite_sample(-2.0),
-        20 => samples::finite_sample(0.0),
-        21 => samples::finite_sample(-0.0),
-        22 => samples::finite_sample(-1.0e-9),
-        23 => samples::finite_sample(-1.0000000000000003e-9),
-        24 => samples::finite_sample(5.0e-324),
-        25 => samples::finite_sample(1.0e308),
-        26 => samples::finite_sample(-1.0e308),
-        28 => samples::finite_sample(0.0 / 0.0),
-        29 => samples::finite_sample(1.0 / 0.0),
-        30 => samples::finite_sample(-1.0 / 0.0),
+        0 | 6 | 14 | 27 => Sample::Value(1.0),
+        1 | 7 | 15 => Sample::Value(-1.0),
+        2 | 8 | 16 => Sample::Value(3.0),
+        3 | 9 | 17 => Sample::Value(-3.0),
+        4 | 10 | 18 => Sample::Value(0.5),
+        5 | 11 | 19 => Sample::Value(-0.5),
+        12 => Sample::Value(2.0),
+        13 => Sample::Value(-2.0),
+        20 => Sample::Value(0.0),
+        21 => Sample::Value(-0.0),
+        22 => Sample::Value(-1.0e-9),
+        23 => Sample::Value(-1.0000000000000003e-9),
+        24 => Sample::Value(5.0e-324),
+        25 => Sample::Value(1.0e308),
+        26 => Sample::Value(-1.0e308),
+        28 => Sample::Value(0.0 / 0.0),
+        29 => Sample::Value(1.0 / 0.0),
+        30 => Sample::Value(-1.0 / 0.0),
         _ => Sample::Missing,
     }
 }

@@ -10,23 +10,22 @@ use lib.Ieee.{Float}
 use Rattle.laws.specs.Ranges.{each}
 use Rattle.laws.proofs.Ranges.{each-more, each-one-length}
 use Rattle.samples.specs.declared.Sample.{Sample}
-use Rattle.samples.specs.declared.Sample.the-variants.{Missing}
-use Rattle.samples.specs.Sides.{whenFinite}
+use Rattle.samples.specs.declared.Sample.the-variants.{Missing, Value}
 use Rattle.marks.specs.Marks.{sample}
 use Rattle.api.specs.Calls.{endsAt}
 use Rattle.api.proofs.ends_at.Statement.{statement}
 use Rattle.api.proofs.ends_at.Tie as tie
 
 abbrev told : List Float → ℕ → List Sample
-told ends e = each e (λ i. whenFinite (sample ends i) ∷ []) ++ replicate (14 - e) Missing
+told ends e = each e (λ i. Value (sample ends i) ∷ []) ++ replicate (14 - e) Missing
 
-turn : (ends : List Float) (e : ℕ) (known : List Sample) (x : Sample) → e < 14 → known ≡ told ends e → x ≡ whenFinite (sample ends e) → set known e x ≡ told ends (e + 1)
+turn : (ends : List Float) (e : ℕ) (known : List Sample) (x : Sample) → e < 14 → known ≡ told ends e → x ≡ Value (sample ends e) → set known e x ≡ told ends (e + 1)
 turn ends e known x l h q =
-    let f : ℕ → List Sample = λ i. whenFinite (sample ends i) ∷ [] in
+    let f : ℕ → List Sample = λ i. Value (sample ends i) ∷ [] in
     let r : 14 - e ≡ suc (14 - (e + 1)) = omega arith in
     let rest = replicate (14 - (e + 1)) Missing in
     ap (λ (y : List Sample). set y e x) (h ∙ ap (λ (m : ℕ). each e f ++ replicate m Missing) r)
-    ∙ set-at (each e f) Missing rest x e (each-one-length e (λ i. whenFinite (sample ends i))) ∙ ap (λ (y : Sample). each e f ++ y ∷ rest) q
+    ∙ set-at (each e f) Missing rest x e (each-one-length e (λ i. Value (sample ends i))) ∙ ap (λ (y : Sample). each e f ++ y ∷ rest) q
     ∙ sym (append-assoc (each e f) (f e) rest) ∙ ap (λ (y : List Sample). y ++ rest) (sym (each-more e f))
 
 abbrev Inv-loop : tie.InvT-loop

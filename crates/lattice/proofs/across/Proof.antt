@@ -40,7 +40,7 @@ down-requires c κs =
 returns-2 : tie.Need-returns-2
 returns-2 c =
     let s = c .before .before .before .before in
-    c .down .ensures ∙ rw (c .before .label-corner2 .ensures, c .before .before .before .coordinates .ensures) (sym (across-down (s .args .n) (s .args .s) (s .args .label) (c .before .before .if1 .left)))
+    c .down .ensures ∙ rw (c .before .label-corner2 .ensures, c .before .before .before .coordinates .ensures) (sym (across-down (s .args .n) (s .args .s) (s .args .label) (c .before .before .if1 .left) (s .pre .2)))
 
 pub across-spec : {M : Type 1} → statement M
 across-spec =

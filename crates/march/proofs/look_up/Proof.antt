@@ -1,8 +1,9 @@
 -- `march::look_up` meets its contract. Assumes nothing.
 use Prim.Native.Nat.{_/_}
-use mathlib.Core.Path.{refl}
 use native.Mathlib.Omega.{arith}
+use Rattle.laws.proofs.Lists.{getD-there}
 use Rattle.tables.specs.Edges.{du, dv, dw}
+use Rattle.march.specs.March.{none}
 use Rattle.march.specs.Inner.Loop.{lookUp}
 use Rattle.march.proofs.Flat.{slot-in, steps-le}
 use borrow.Author.Needs.{needs}
@@ -39,7 +40,7 @@ shared-slice-read-result c = slot-in (c .before .args .x) (c .before .pre .0)
 
 returns : tie.Need-returns
 unfolding lookUp du dv dw
-returns c = refl
+returns c = getD-there (c .before .args .edges .now) _ 0 none (slot-in (c .before .args .x) (c .before .pre .0))
 
 pub look-up-spec : {M : Type 1} → statement M
 look-up-spec =

@@ -13,7 +13,7 @@ use Rattle.tables.specs.Cases.{mtRow}
 use Rattle.lattice.specs.declared.Sides.{Sides}
 use Rattle.lattice.specs.Sites.{SidesFit, sites, cells}
 use Rattle.cases.specs.Inner.Codes.{caseOn}
-use Rattle.march.specs.March.{Field, emitted, siteTris}
+use Rattle.march.specs.March.{Field, none, emitted, siteTris}
 
 -- the three vertices of a triangle, nothing where it is dropped
 unfoldable pub shown : Tri → List ℕ
@@ -29,7 +29,7 @@ unlessTwice v = cond (twice (getD v 0 0) (getD v 1 0) (getD v 2 0)) [] (getD v 0
 
 -- the vertex of edge x of the cell at site i, where rows are nu sites long and layers nn
 unfoldable pub lookUp : List ℕ → ℕ → ℕ → ℕ → ℕ → ℕ
-lookUp edges i nu nn x = getD edges (7 * (i + du (x / 7) + nu * dv (x / 7) + nn * dw (x / 7)) + x % 7) 0
+lookUp edges i nu nn x = getD edges (7 * (i + du (x / 7) + nu * dv (x / 7) + nn * dw (x / 7)) + x % 7) none
 
 -- the vertex of corner c of triangle k of a case
 unfoldable pub cornerAt : (ℕ → ℕ) → ℕ → ℕ → ℕ → ℕ → ℕ

@@ -22,14 +22,11 @@ found c =
     let s = c .before .before .before .before in
     reached (s .args .n) (s .args .samples .now) (s .args .s) (s .args .e) (c .end .given .0 .0) (c .before .before .across .result) (s .pre .0) (s .pre .1) (c .before .before .across .ensures) (c .end .given .1)
 
-mul-finite-sample : tie.Need-mul-finite-sample
-mul-finite-sample c = omega (arith, found (c .before))
+mul-t8 : tie.Need-mul-t8
+mul-t8 c = omega (arith, found (c .before))
 
-shared-slice-read-finite-sample : tie.Need-shared-slice-read-finite-sample
-shared-slice-read-finite-sample c = omega (arith, found (c .before .before))
-
-finite-sample-requires : tie.Need-finite-sample-requires
-finite-sample-requires c κs = search needs
+shared-slice-read-t10 : tie.Need-shared-slice-read-t10
+shared-slice-read-t10 c = omega (arith, found (c .before .before))
 
 returns : tie.Need-returns
 unfolding endBy
@@ -37,7 +34,7 @@ returns c = sym (ap (endBy (c .before .before .before .before .args .samples .no
 
 returns-2 : tie.Need-returns-2
 unfolding endBy
-returns-2 c = c .finite-sample .ensures ∙ sym (ap (endBy (c .before .before .before .before .before .before .before .args .samples .now)) (found (c .before .before .before) .leads))
+returns-2 c = sym (ap (endBy (c .before .before .before .before .before .before .args .samples .now)) (found (c .before .before) .leads))
 
 pub end-at-spec : {M : Type 1} → statement M
 end-at-spec =
@@ -46,8 +43,7 @@ end-at-spec =
     across-requires
     enum-told
     enum-known-end
-    mul-finite-sample
-    shared-slice-read-finite-sample
-    finite-sample-requires
+    mul-t8
+    shared-slice-read-t10
     returns
     returns-2)

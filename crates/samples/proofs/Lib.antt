@@ -1,0 +1,3 @@
+-- What is proved of samples beside the functions' own proofs.
+pub mod Known
+pub mod Determined
