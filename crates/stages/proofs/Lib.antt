@@ -11,6 +11,7 @@ pub mod Marched
 pub mod Order
 pub mod Turns
 pub mod Book
+pub mod Positions
 pub mod Rounds
 pub mod Members
 pub mod Readback

@@ -27,11 +27,11 @@ use Rattle.laws.proofs.Lists.{count-append, count-keep, count-key, keep-append,
 
 -- ---- lists of edges and of their places
 
-head-in : (d : ℕ) (es : List ℕ) → isIn (d ∷ es) d ≡ true
+pub head-in : (d : ℕ) (es : List ℕ) → isIn (d ∷ es) d ≡ true
 unfolding isIn count bit
 head-in d es = lt-ltb 0 (bit (eqb d d) + count (eqb d) es) (rw (eq-eqb d d refl) (omega arith))
 
-tail-in : (c d : ℕ) (es : List ℕ) → isIn es c ≡ true → isIn (d ∷ es) c ≡ true
+pub tail-in : (c d : ℕ) (es : List ℕ) → isIn es c ≡ true → isIn (d ∷ es) c ≡ true
 unfolding isIn count
 tail-in c d es h = lt-ltb 0 (bit (eqb c d) + count (eqb c) es) (omega (arith, ltb-true 0 (count (eqb c) es) h))
 

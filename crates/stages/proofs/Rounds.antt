@@ -2,12 +2,13 @@
 use mathlib.Core.Path.{_≡_, refl, ap, sym, _∙_}
 use mathlib.Core.Bool.{Bool, true, false, _||_, cond, true≢false}
 use mathlib.Core.List.{List, [], _∷_, _++_, append-nil}
-use Prim.Native.Nat.{ℕ, zero, suc, _<_, _≤_}
+use Prim.Native.Nat.{ℕ, zero, suc, _+_, _<_, _≤_}
 use native.Mathlib.Omega.{arith}
 use Rattle.stages.specs.Boxes.{Box}
 use Rattle.stages.specs.Vertices.{Vertex}
 use Rattle.stages.specs.Meshes.{meshOf, numbers}
-use Rattle.stages.specs.Rounds.{crowdedTris, given, isIn, owners, owns, rollback, rounds, roundsDone}
+use Rattle.stages.specs.Splits.{split}
+use Rattle.stages.specs.Rounds.{built, crowdedTris, given, isIn, owners, owns, rollback, rounds, roundsDone}
 use Rattle.stages.proofs.Stages.{given-case}
 use Rattle.stages.proofs.Order.{in-keep}
 use Rattle.laws.specs.Ranges.{any, each}
@@ -56,6 +57,31 @@ module _ (b : Box) where
           → owners b (given os vs (λ os. rounds b k (suc r) (rollback r os vs))) ≡ []
       go [] e l rest = e
       go (s ∷ os) e l rest = rest (s ∷ os) (omega arith)
+
+  -- one round more: after the last, where there is an owner; else nothing changes
+  rounds-last : (k r : ℕ) (vs : List Vertex)
+      → rounds b (suc k) r vs ≡ given (owners b (rounds b k r vs)) (rounds b k r vs) (λ os. rollback (r + k) os (rounds b k r vs))
+  unfolding rounds given
+  rounds-last zero r vs = let e : r + 0 ≡ r = omega arith in rw e
+  rounds-last (suc k) r vs = go (owners b vs) refl (λ os. rounds-last k (suc r) (rollback r os vs))
+    where
+      go : (os : List ℕ) → owners b vs ≡ os
+          → ((os : List ℕ) → rounds b (suc k) (suc r) (rollback r os vs)
+          ≡ given (owners b (rounds b k (suc r) (rollback r os vs))) (rounds b k (suc r) (rollback r os vs)) (λ ps. rollback (suc r + k) ps (rounds b k (suc r) (rollback r os vs))))
+          → given os vs (λ os. rounds b (suc k) (suc r) (rollback r os vs))
+          ≡ given (owners b (given os vs (λ os. rounds b k (suc r) (rollback r os vs)))) (given os vs (λ os. rounds b k (suc r) (rollback r os vs)))
+          (λ ps. rollback (r + suc k) ps (given os vs (λ os. rounds b k (suc r) (rollback r os vs))))
+      go [] e rest = rw e
+      go (s ∷ os) e rest = let q : r + suc k ≡ suc r + k = omega arith in rw q (rest (s ∷ os))
+
+  -- A BUILD WITH ONE ROUND MORE IS THE BUILD AND THAT ROUND, or the same where no owner is left
+  pub built-more : (k : ℕ) → built b (suc k) ≡ given (owners b (built b k)) (built b k) (λ os. rollback (suc k) os (built b k))
+  unfolding built
+  built-more k = let e : 1 + k ≡ suc k = omega arith in rw e at (rounds-last k 1 (split b))
+
+  pub built-first : built b 0 ≡ split b
+  unfolding built rounds
+  built-first = refl
 
   owner-none : (p : ℕ → Bool) (n : ℕ) → any n p ≡ false → keep p (numbers n) ≡ []
   unfolding numbers each keep any

@@ -73,7 +73,7 @@ module _ (n : Sides) (S : List Float) (h : Float) where
       go end.Missing a = absurd (no-marks S h s e (sym (ap (markedBy S h s e) a) ∙ m))
       go (end.At t) a = record { to = t; is = a }
 
-  set-marked : (s e : ℕ) → markAt n S h s e ≡ true → marked n S h s e ≡ true
+  pub set-marked : (s e : ℕ) → markAt n S h s e ≡ true → marked n S h s e ≡ true
   unfolding bit
   set-marked s e m =
       let q : bit (markAt n S h s e) ≡ bit (marked n S h s e) = mark-is n S h s e (mark-label n S h s e m) in

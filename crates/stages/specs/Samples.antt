@@ -3,9 +3,9 @@ use mathlib.Core.Path.{_≡_}
 use mathlib.Core.Bool.{Bool, true, false, _&&_, not}
 use mathlib.Core.List.{List, [], _∷_, _++_, map}
 use Prim.Native.Nat.{ℕ, _/_, _%_, _<_}
-use lib.Dec.{eqb}
+use lib.Dec.{T, eqb}
 use lib.ListN.{take}
-use lib.Ieee.{Float}
+use lib.Ieee.{Float, binary64, fits}
 use Rattle.laws.specs.Bools.{bit}
 use Rattle.laws.specs.Ranges.{each, sum}
 use Rattle.laws.specs.Lists.{keep}
@@ -80,6 +80,10 @@ pointed n S h k = isCrossed n S h (k / 7) (k % 7) && pointBy S (k / 7) (acrossOf
 -- every sample of the box is finite
 unfoldable pub AllFinite : Sides → List Float → Type 0
 AllFinite n S = (s : ℕ) → s < sites n → finite (sample S s) ≡ true
+
+-- every entry of the list is a float of 64 bits, as those of a lent list are
+unfoldable pub AllDouble : List Float → Type 0
+AllDouble S = (s : ℕ) → T (fits binary64 (sample S s))
 
 -- ---- positions
 
