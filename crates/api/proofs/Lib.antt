@@ -1,2 +1,3 @@
 -- What the promises of the library determine.
 pub mod Unique
+pub mod Determined

@@ -3,3 +3,4 @@ pub mod Grants
 pub mod Answering
 pub mod Unique
 pub mod Fronts
+pub mod Determined

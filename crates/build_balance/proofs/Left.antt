@@ -1,4 +1,4 @@
--- Demand 3 of the lists that a build leaves: every crossed edge is named once by the edge table, the held counts of the vertex book add up to the crossings,
+-- What holds of the lists that a build leaves. The triangle list is in whole threes, and every position is finite. Demand 3: every crossed edge is named once by the edge table, the held counts of the vertex book add up to the crossings,
 -- and as many triangles of the triangle list run from a vertex to another as back. Assumes nothing.
 use mathlib.Core.Path.{_≡_, sym, ap, _∙_, subst}
 use mathlib.Core.Bool.{Bool, true}
@@ -8,37 +8,74 @@ use native.Mathlib.Omega.{arith}
 use lib.Dec.{eqb}
 use lib.ListN.{length, getD, take, drop, List·getD-append}
 use lib.Seq.{take-append-seam}
+use lib.Ieee.{Float, nan}
 use Rattle.laws.specs.Ranges.{sum}
 use Rattle.laws.specs.Lists.{count}
 use Rattle.laws.specs.Triangles.{Tri, flat, trisOf, Balanced}
 use Rattle.laws.proofs.Sums.{sum-same}
+use Rattle.laws.proofs.Lists.{all-member}
 use Rattle.laws.proofs.Triangles.{flat-length, flat-same, tris-flat}
+use Rattle.samples.specs.Sides.{finite}
 use Rattle.lattice.specs.Sites.{SidesFit, sites}
 use Rattle.marks.specs.Marks.{crossedCount, isCrossed}
 use Rattle.march.specs.March.{none}
 use Rattle.march.specs.Runs.{runs}
 use Rattle.stages.specs.Meshes.{bookOf, meshOf, tableOf}
 use Rattle.stages.specs.Rounds.{built}
-use Rattle.stages.specs.Samples.{boxOf, AllFinite}
+use Rattle.stages.specs.Samples.{boxOf, AllFinite, AllDouble}
 use Rattle.stages.specs.Stages.{Held}
 use Rattle.stages.proofs.Book.{book-length}
 use Rattle.stages.proofs.Demand.{book-crossed, crossed-held, table-names}
 use Rattle.stages.proofs.Stages.{built-stage}
+use Rattle.stages.proofs.Positions.{positions-finite}
 use Rattle.stages.proofs.Table.{table-length}
 use Rattle.build.specs.declared.Answer.{Answer}
-use Rattle.build.specs.Answer.{Order, Lists, doneAnswer, orderBook, orderBox, orderTable, orderTriangles, orderVertices}
+use Rattle.build.specs.Answer.{Order, Lists, doneAnswer, orderBook, orderBox, orderPositions, orderTable, orderTriangles, orderVertices}
 use Rattle.build.proofs.Answering.{order-granted}
-use Rattle.build.proofs.Fronts.{is-done, is-written}
+use Rattle.build.proofs.Fronts.{is-done, is-written, positions-three}
 use Rattle.build_balance.specs.Border.{OneSide}
 use Rattle.build_balance.specs.Left.{Left}
 use Rattle.build_balance.proofs.Surface.{built-closed, stage-balanced}
 
+-- ---- what needs no finite samples
+
+module _ (o : Order) (l l′ : Lists) (z : Answer) (D : Left o l l′ z) where
+  done : z ≡ doneAnswer o
+  done = D .built .answer ∙ is-done o (D .granted)
+
+  -- THE TRIANGLE LIST BEGINS WITH THE SURFACE'S TRIANGLES, in whole threes
+  pub left-triangles : take (3 * z .triangles) (l′ .triangles) ≡ orderTriangles o
+  unfolding doneAnswer
+  left-triangles =
+      let n : 3 * z .triangles ≡ length (orderTriangles o) = ap (λ (y : Answer). 3 * y .triangles) done ∙ omega (arith, flat-length (meshOf (orderBox o) (orderVertices o))) in
+      let e : l′ .triangles ≡ orderTriangles o ++ drop (length (orderTriangles o)) (l .triangles) =
+      ap (λ (y : Lists). y .triangles) (D .built .after) ∙ is-written o (D .granted) (orderTriangles o) (l .triangles) in
+      (λ i. take (n i) (e i)) ∙ take-append-seam (orderTriangles o) (drop (length (orderTriangles o)) (l .triangles))
+
+  pub left-threes : flat (trisOf (take (3 * z .triangles) (l′ .triangles))) ≡ take (3 * z .triangles) (l′ .triangles)
+  left-threes =
+      ap (λ (y : List ℕ). flat (trisOf y)) left-triangles ∙ ap flat (tris-flat (meshOf (orderBox o) (orderVertices o))) ∙ sym left-triangles
+
+  -- EVERY POSITION THAT A BUILD LEAVES IS FINITE, for all samples of 64 bits
+  pub left-finite : AllDouble (o .samples) → (i : ℕ) → i < 3 * z .vertices → finite (getD (l′ .positions) i nan) ≡ true
+  unfolding orderVertices orderBox doneAnswer
+  left-finite F i h =
+      let g = order-granted o (D .granted) in
+      let b = boxOf (o .sides) (o .samples) (o .threshold) (eqb (o .method) 1) in
+      let v : z .vertices ≡ length (orderVertices o) = ap (λ (y : Answer). y .vertices) done in
+      let low : i < length (orderPositions o) = omega (arith, positions-three o (D .granted)) in
+      let e : l′ .positions ≡ orderPositions o ++ drop (length (orderPositions o)) (l .positions) =
+      ap (λ (y : Lists). y .positions) (D .built .after) ∙ is-written o (D .granted) (orderPositions o) (l .positions) in
+      ap (λ (y : List Float). finite (getD y i nan)) e
+      ∙ ap finite (List·getD-append (orderPositions o) (drop (length (orderPositions o)) (l .positions)) nan i low)
+      ∙ all-member nan (λ x. finite x ≡ true) (orderPositions o)
+      (positions-finite (o .frame) (o .sides) (o .samples) (o .threshold) (g .frame) (g .fit) F (eqb (o .method) 1) (built-stage b (o .rounds))) i low
+
+-- ---- where all samples are finite
+
 module _ (o : Order) (l l′ : Lists) (z : Answer) (D : Left o l l′ z) (F : AllFinite (o .sides) (o .samples)) where
   fit : SidesFit (o .sides)
   fit = order-granted o (D .granted) .fit
-
-  done : z ≡ doneAnswer o
-  done = D .built .answer ∙ is-done o (D .granted)
 
   book-is : (l′ .book) ≡ orderBook o ++ drop (length (orderBook o)) (l .book)
   book-is = ap (λ (y : Lists). y .book) (D .built .after) ∙ is-written o (D .granted) (orderBook o) (l .book)
@@ -46,15 +83,12 @@ module _ (o : Order) (l l′ : Lists) (z : Answer) (D : Left o l l′ z) (F : Al
   table-is : (l′ .table) ≡ orderTable o ++ drop (length (orderTable o)) (l .table)
   table-is = ap (λ (y : Lists). y .table) (D .built .after) ∙ is-written o (D .granted) (orderTable o) (l .table)
 
-  triangles-are : (l′ .triangles) ≡ orderTriangles o ++ drop (length (orderTriangles o)) (l .triangles)
-  triangles-are = ap (λ (y : Lists). y .triangles) (D .built .after) ∙ is-written o (D .granted) (orderTriangles o) (l .triangles)
-
   -- THE HELD COUNTS OF THE BOOK ADD UP TO THE CROSSINGS
   pub left-held : sum (z .vertices) (λ i. getD (l′ .book) (4 * i + 1) 0) ≡ crossedCount (o .sides) (o .samples) (o .threshold)
   unfolding orderVertices orderBox doneAnswer
   left-held =
       let vs = built (boxOf (o .sides) (o .samples) (o .threshold) (eqb (o .method) 1)) (o .rounds) in
-      ap (λ (y : Answer). sum (y .vertices) (λ i. getD (l′ .book) (4 * i + 1) 0)) done
+      ap (λ (y : Answer). sum (y .vertices) (λ i. getD (l′ .book) (4 * i + 1) 0)) (done o l l′ z D)
       ∙ sum-same (length vs) (λ i. getD (l′ .book) (4 * i + 1) 0) (λ i. getD (bookOf vs) (4 * i + 1) 0)
       (λ i b. ap (λ (y : List ℕ). getD y (4 * i + 1) 0) book-is ∙ List·getD-append (bookOf vs) (drop (length (bookOf vs)) (l .book)) 0 (4 * i + 1) (omega (arith, book-length vs)))
       ∙ book-crossed (o .sides) (o .samples) (o .threshold) (eqb (o .method) 1) fit F (built-stage (boxOf (o .sides) (o .samples) (o .threshold) (eqb (o .method) 1)) (o .rounds))
@@ -75,23 +109,20 @@ module _ (o : Order) (l l′ : Lists) (z : Answer) (D : Left o l l′ z) (F : Al
       low : 7 * s + e < length (orderTable o)
       low = omega (arith, table-length (orderBox o) (orderVertices o), hs, he)
 
-  -- THE TRIANGLE LIST BEGINS WITH THE SURFACE'S TRIANGLES
-  pub left-triangles : take (3 * z .triangles) (l′ .triangles) ≡ orderTriangles o
-  unfolding doneAnswer
-  left-triangles =
-      let n : 3 * z .triangles ≡ length (orderTriangles o) = ap (λ (y : Answer). 3 * y .triangles) done ∙ omega (arith, flat-length (meshOf (orderBox o) (orderVertices o))) in
-      (λ i. take (n i) (triangles-are i)) ∙ take-append-seam (orderTriangles o) (drop (length (orderTriangles o)) (l .triangles))
-
   module _ (side : Bool) (B : OneSide (o .sides) (o .samples) (o .threshold) side) where
     -- AS MANY TRIANGLES RUN ONE WAY AS THE OTHER
     pub left-closed : (ts : List Tri) → take (3 * z .triangles) (l′ .triangles) ≡ flat ts → (p q : ℕ) → count (runs p q) ts ≡ count (runs q p) ts
     unfolding orderVertices orderBox
     left-closed ts e p q =
-        let same : ts ≡ meshOf (orderBox o) (orderVertices o) = flat-same ts (meshOf (orderBox o) (orderVertices o)) (sym e ∙ left-triangles) in
+        let same : ts ≡ meshOf (orderBox o) (orderVertices o) = flat-same ts (meshOf (orderBox o) (orderVertices o)) (sym e ∙ left-triangles o l l′ z D) in
         ap (count (runs p q)) same ∙ built-closed (o .sides) (o .samples) (o .threshold) (eqb (o .method) 1) side fit F B (o .rounds) p q ∙ ap (count (runs q p)) (sym same)
+
+    -- the same of the list as it is read: three entries a triangle
+    pub left-runs : (p q : ℕ) → count (runs p q) (trisOf (take (3 * z .triangles) (l′ .triangles))) ≡ count (runs q p) (trisOf (take (3 * z .triangles) (l′ .triangles)))
+    left-runs = left-closed (trisOf (take (3 * z .triangles) (l′ .triangles))) (sym (left-threes o l l′ z D))
 
     pub left-balanced : Balanced (trisOf (take (3 * z .triangles) (l′ .triangles)))
     unfolding orderVertices orderBox
     left-balanced =
-        subst Balanced (sym (ap trisOf left-triangles ∙ tris-flat (meshOf (orderBox o) (orderVertices o))))
+        subst Balanced (sym (ap trisOf (left-triangles o l l′ z D) ∙ tris-flat (meshOf (orderBox o) (orderVertices o))))
         (stage-balanced (o .sides) (o .samples) (o .threshold) (eqb (o .method) 1) side fit F B (built-stage (boxOf (o .sides) (o .samples) (o .threshold) (eqb (o .method) 1)) (o .rounds)))

@@ -3,3 +3,4 @@ pub mod Surface
 pub mod Left
 pub mod Volumes
 pub mod Check
+pub mod Witness

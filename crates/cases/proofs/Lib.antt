@@ -2,3 +2,4 @@
 pub mod Codes
 pub mod Columns
 pub mod Tails
+pub mod Determined

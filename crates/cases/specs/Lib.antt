@@ -1,4 +1,4 @@
--- The cases of a tetrahedron and of a site from the samples, and examples to check by (docs/SCOPE.md, S14.1).
+-- The cases of a tetrahedron and of a site from the samples, and those of a small box.
 pub mod Cases
 pub mod Examples
 pub mod Inner

@@ -2,3 +2,4 @@
 pub mod Counts
 pub mod Shown
 pub mod Example
+pub mod Determined

@@ -4,3 +4,4 @@ pub mod Meaning
 pub mod Meshes
 pub mod Split
 pub mod Rollback
+pub mod Determined

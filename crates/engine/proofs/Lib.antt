@@ -6,3 +6,4 @@ pub mod Settling
 pub mod Making
 pub mod Masks
 pub mod Unique
+pub mod Determined

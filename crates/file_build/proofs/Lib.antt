@@ -2,3 +2,4 @@
 pub mod Building
 pub mod Status
 pub mod Told
+pub mod Determined

@@ -3,3 +3,4 @@ pub mod Sites
 pub mod OtherEnds
 pub mod Owner
 pub mod Source
+pub mod Determined

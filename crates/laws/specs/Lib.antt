@@ -8,3 +8,4 @@ pub mod Filling
 pub mod Couples
 pub mod Triangles
 pub mod Ints
+pub mod Promises

@@ -1,33 +1,46 @@
--- What the public functions promise determines every byte and every answer: two that keep the promise are equal. Assumes nothing.
--- That of `dec_line` and `hex_line` is `line-unique` of Lines, that of `read_run` is `run-unique` of Runs.
-use mathlib.Core.Path.{_≡_, sym, _∙_}
-use mathlib.Core.Bool.{Bool}
-use mathlib.Core.List.{List}
-use Prim.Native.Nat.{ℕ}
-use lib.ListN.{length, drop}
-use Rattle.laws.specs.Written.{Written}
+-- What each public function promises, as its source states it, determines the answer and every entry of what it is lent. Assumes nothing.
+use mathlib.Core.Path.{sym, _∙_}
+use denote.Ref.{now}
+use Rattle.laws.specs.Promises.{OneAnswer, OneOutcome}
 use Rattle.laws.proofs.Written.{written-unique}
-use Rattle.lines.specs.Numbers.{dec}
-use Rattle.lines.specs.Lines.{decLine, lines}
-use Rattle.lines.specs.Inner.Readers.{starts}
-use Rattle.lines.specs.Inner.Forms.{formOf}
-use Rattle.lines.specs.Status.{refusalText}
+use Rattle.lines.specs.Lines.{Dec, Hex, lineOf, okOf}
+use Rattle.lines.proofs.Lines.{line-unique}
+use Rattle.lines.proofs.Runs.{run-unique}
+use Rattle.lines.proofs.has.Reads as has
+use Rattle.lines.proofs.dec_line.Reads as dec-line
+use Rattle.lines.proofs.hex_line.Reads as hex-line
+use Rattle.lines.proofs.read_run.Reads as read-run
+use Rattle.lines.proofs.put_dec.Reads as put-dec
+use Rattle.lines.proofs.put_text.Reads as put-text
+use Rattle.lines.proofs.put_line.Reads as put-line
+use Rattle.lines.proofs.put_run.Reads as put-run
+use Rattle.lines.proofs.put_status.Reads as put-status
 
-pub has-unique : (s : List ℕ) (at : ℕ) (key : List ℕ) (r q : Bool) → r ≡ starts key (drop at s) → q ≡ starts key (drop at s) → r ≡ q
-has-unique s at key r q a b = a ∙ sym b
+pub has-determined : OneAnswer has.Post
+has-determined κ a y z e f p q = p ∙ sym q
 
-pub put-dec-unique : (l : List ℕ) (at n : ℕ) (l′ l″ : List ℕ) (r q : ℕ) → Written l at (dec n) l′ r → Written l at (dec n) l″ q → (l′ ≡ l″) × (r ≡ q)
-put-dec-unique l at n l′ l″ r q a b = written-unique a b
+pub dec-line-determined : OneAnswer dec-line.Post
+unfolding lineOf okOf
+dec-line-determined κ a y z e f p q = line-unique (Dec (now (a .1 .1 .0))) _ _ y z p q
 
-pub put-text-unique : (l : List ℕ) (at : ℕ) (text l′ l″ : List ℕ) (r q : ℕ) → Written l at text l′ r → Written l at text l″ q → (l′ ≡ l″) × (r ≡ q)
-put-text-unique l at text l′ l″ r q a b = written-unique a b
+pub hex-line-determined : OneAnswer hex-line.Post
+unfolding lineOf okOf
+hex-line-determined κ a y z e f p q = line-unique (Hex (now (a .1 .1 .0))) _ _ y z p q
 
-pub put-line-unique : (l : List ℕ) (at : ℕ) (key : List ℕ) (n : ℕ) (l′ l″ : List ℕ) (r q : ℕ) → Written l at (decLine key n) l′ r → Written l at (decLine key n) l″ q → (l′ ≡ l″) × (r ≡ q)
-put-line-unique l at key n l′ l″ r q a b = written-unique a b
+pub read-run-determined : OneOutcome (λ κ e. now (e .1 .1 .1 .1 .1 .0)) read-run.Post
+read-run-determined κ a y z e f p q = let u = run-unique _ _ _ _ _ _ _ y z p q in (u .1, u .0)
 
-pub put-status-unique : (l : List ℕ) (at n : ℕ) (l′ l″ : List ℕ) (r q : ℕ) → Written l at (refusalText n) l′ r → Written l at (refusalText n) l″ q → (l′ ≡ l″) × (r ≡ q)
-put-status-unique l at n l′ l″ r q a b = written-unique a b
+pub put-dec-determined : OneOutcome (λ κ e. now (e .0)) put-dec.Post
+put-dec-determined κ a y z e f p q = let u = written-unique p q in (u .1, u .0)
 
-pub put-run-unique : (l : List ℕ) (at : ℕ) (keys vals l′ l″ : List ℕ) (r q : ℕ) → Written l at (lines (formOf (length vals) (length vals) keys) vals) l′ r
-    → Written l at (lines (formOf (length vals) (length vals) keys) vals) l″ q → (l′ ≡ l″) × (r ≡ q)
-put-run-unique l at keys vals l′ l″ r q a b = written-unique a b
+pub put-text-determined : OneOutcome (λ κ e. now (e .0)) put-text.Post
+put-text-determined κ a y z e f p q = let u = written-unique p q in (u .1, u .0)
+
+pub put-line-determined : OneOutcome (λ κ e. now (e .0)) put-line.Post
+put-line-determined κ a y z e f p q = let u = written-unique p q in (u .1, u .0)
+
+pub put-run-determined : OneOutcome (λ κ e. now (e .0)) put-run.Post
+put-run-determined κ a y z e f p q = let u = written-unique p q in (u .1, u .0)
+
+pub put-status-determined : OneOutcome (λ κ e. now (e .0)) put-status.Post
+put-status-determined κ a y z e f p q = let u = written-unique p q in (u .1, u .0)

@@ -1,2 +1,3 @@
 -- Laws of numbers as bytes.
 pub mod Bytes
+pub mod Determined

@@ -6,10 +6,10 @@ use native.Mathlib.Omega.{arith}
 use lib.ListN.{length, drop}
 use Rattle.laws.specs.Written.{Written}
 use Rattle.laws.specs.Triangles.{flat}
-use Rattle.laws.proofs.Written.{written-plain, written-unique}
+use Rattle.laws.proofs.Written.{written-plain}
 use Rattle.laws.proofs.Triangles.{flat-length}
 use Rattle.lattice.specs.Sites.{cells}
-use Rattle.march.specs.March.{Field, slab, march}
+use Rattle.march.specs.March.{Field, march}
 use Rattle.march.proofs.March.{march-le}
 
 -- the triangles first, then the entries that were there; as many as the definition has, and at most twelve a cell
@@ -28,11 +28,3 @@ marched F tris tris′ r room w =
       most = omega (arith, march-le F);
       list = written-plain w fits ∙ ap (λ (k : ℕ). flat (march F) ++ drop k tris) e;
     }
-
--- ---- any two answers that keep a promise are equal: that of the box, and that of the first slab
-
-pub march-box-unique : (F : Field) (tris a b : List ℕ) (r q : ℕ) → Written tris 0 (flat (march F)) a (3 * r) → Written tris 0 (flat (march F)) b (3 * q) → (a ≡ b) × (r ≡ q)
-march-box-unique F tris a b r q x y = let e = written-unique x y in (e .0, omega (arith, e .1))
-
-pub march-layer-unique : (F : Field) (tris a b : List ℕ) (at r q : ℕ) → Written tris at (flat (slab F 0)) a r → Written tris at (flat (slab F 0)) b q → (a ≡ b) × (r ≡ q)
-march-layer-unique F tris a b at r q x y = written-unique x y

@@ -7,3 +7,4 @@ pub mod Walk
 pub mod Edges
 pub mod Finer
 pub mod Answer
+pub mod Determined

@@ -5,3 +5,4 @@ pub mod Masks
 pub mod Count
 pub mod Local
 pub mod Rooms
+pub mod Determined

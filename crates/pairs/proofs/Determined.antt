@@ -1,21 +1,21 @@
--- What the public functions promise determines every word and every answer: two that keep the promise are equal. Assumes nothing.
-use mathlib.Core.Path.{_≡_, sym, _∙_}
-use mathlib.Core.List.{List}
-use Prim.Native.Nat.{ℕ}
-use Rattle.sort.specs.declared.Rec.{Rec}
-use Rattle.pairs.specs.Sides.{next, crowdedRoom}
-use Rattle.pairs.specs.Inner.Listing.{filled}
-use Rattle.pairs.specs.Inner.Runs.{Front}
+-- What each public function promises, as its source states it, determines the answer and every entry of what it is lent. Assumes nothing.
+use mathlib.Core.Path.{sym, _∙_}
+use denote.Ref.{now}
+use Rattle.laws.specs.Promises.{OneAnswer, OneLeft}
 use Rattle.pairs.proofs.Runs.{front-count}
+use Rattle.pairs.proofs.next_corner.Reads as next-corner
+use Rattle.pairs.proofs.fill.Reads as fill
+use Rattle.pairs.proofs.run.Reads as run
+use Rattle.pairs.proofs.over_sides.Reads as over-sides
 
-pub over-sides-unique : (s room t u : List ℕ) → t ≡ crowdedRoom s room → u ≡ crowdedRoom s room → t ≡ u
-over-sides-unique s room t u a b = a ∙ sym b
+pub next-corner-determined : OneAnswer next-corner.Post
+next-corner-determined κ a y z e f p q = p ∙ sym q
 
-pub fill-unique : (s room t u : List ℕ) → t ≡ filled s room → u ≡ filled s room → t ≡ u
-fill-unique s room t u a b = a ∙ sym b
+pub fill-determined : OneLeft (λ κ e. now (e .1 .0)) fill.Post
+fill-determined κ a y z e f p q = p ∙ sym q
 
-pub run-unique : (l : List Rec) (r q : ℕ) → Front l r → Front l q → r ≡ q
-run-unique l r q a b = sym (front-count l r a) ∙ front-count l q b
+pub run-determined : OneAnswer run.Post
+run-determined κ a y z e f p q = sym (front-count _ y p) ∙ front-count _ z q
 
-pub next-corner-unique : (k r q : ℕ) → r ≡ next k → q ≡ next k → r ≡ q
-next-corner-unique k r q a b = a ∙ sym b
+pub over-sides-determined : OneLeft (λ κ e. now (e .1 .0)) over-sides.Post
+over-sides-determined κ a y z e f p q = p ∙ sym q

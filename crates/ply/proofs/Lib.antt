@@ -7,3 +7,4 @@ pub mod Promises
 pub mod Floats
 pub mod Example
 pub mod Rows
+pub mod Determined

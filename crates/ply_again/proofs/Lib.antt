@@ -1,2 +1,3 @@
 -- Laws of a PLY file that is read and written again.
 pub mod Again
+pub mod Determined

@@ -2,3 +2,4 @@
 pub mod Meshes
 pub mod Texts
 pub mod Example
+pub mod Determined

@@ -2,3 +2,4 @@
 pub mod Writing
 pub mod Floats
 pub mod Promises
+pub mod Determined

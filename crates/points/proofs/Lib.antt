@@ -9,3 +9,4 @@ pub mod Order
 pub mod Means
 pub mod Finite
 pub mod Bits
+pub mod Determined

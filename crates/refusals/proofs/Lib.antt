@@ -2,3 +2,4 @@
 pub mod Status
 pub mod Lowest
 pub mod Granted
+pub mod Determined

@@ -106,10 +106,6 @@ module _ (n : Sides) (method R : ℕ) (f : Frame) (S : List Float) (L : Lengths)
   unfolding requestOf
   reply-granted E p e = rw e (λ i. record { status = 0; crossed = p i })
 
-  -- any two replies that meet the promise are equal
-  pub request-unique : (r r′ : Reply) → r ≡ requestOf n method R f S L h → r′ ≡ requestOf n method R f S L h → r ≡ r′
-  request-unique r r′ p q = p ∙ sym q
-
   -- what a caller reads in it
   pub reply-status : (r : Reply) → r ≡ requestOf n method R f S L h → r .status ≡ statusOf n method R f S L h
   unfolding requestOf

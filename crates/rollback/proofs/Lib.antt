@@ -6,3 +6,4 @@ pub mod Holding
 pub mod Vertex
 pub mod Turns
 pub mod Rounds
+pub mod Determined

@@ -1,4 +1,4 @@
--- What the view says of the samples, and that its promises leave no choice. Assumes nothing.
+-- What the view says of the samples. Assumes nothing.
 use mathlib.Core.Path.{_≡_, refl, sym, ap, _∙_}
 use mathlib.Core.Bool.{Bool, true, false, _&&_, cond}
 use mathlib.Core.List.{List}
@@ -8,7 +8,6 @@ use borrow.Author.Tests.{lt-ltb}
 use lib.Dec.{ltb}
 use lib.ListN.{length, getD}
 use lib.Ieee.{Float, nan}
-use denote.Ref.{RefT}
 use Rattle.tables.specs.Edges.{reverse}
 use Rattle.samples.specs.declared.Sample.{Sample}
 use Rattle.samples.specs.declared.Sample.the-variants.{Missing, Value}
@@ -18,17 +17,8 @@ use Rattle.lattice.specs.Sites.{SidesFit, sidesOk, sites, inBox, siteOf}
 use Rattle.lattice.specs.Across.{acrossOf}
 use Rattle.lattice.proofs.Sites.{fit-sides, site-lt}
 use Rattle.lattice.proofs.OtherEnds.{box-in, across-joined, across-back}
-use Rattle.sample_view.specs.declared.SampleView.{SampleView}
 use Rattle.sample_view.specs.View.{entryAt, valueAt, valueUvw, entryBy, valueAcross}
 use Rattle.sample_view.proofs.Lookups.{entry-there, at-there, across-is}
-
--- ---- any two answers that keep a promise are equal
-
-pub view-unique : {x r q : Sample} → r ≡ x → q ≡ x → r ≡ q
-view-unique a b = a ∙ sym b
-
-pub made-unique : {s : RefT (List Float)} {n : Sides} (r q : SampleView) → (r .samples ≡ s) × (r .sides ≡ n) → (q .samples ≡ s) × (q .sides ≡ n) → r ≡ q
-made-unique r q a b = λ i. record { samples = (a .0 ∙ sym (b .0)) i; sides = (a .1 ∙ sym (b .1)) i }
 
 -- ---- one test in the place of another
 

@@ -3,3 +3,4 @@ pub mod Lookups
 pub mod Fields
 pub mod Calls
 pub mod Laws
+pub mod Determined

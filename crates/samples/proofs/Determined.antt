@@ -1,14 +1,27 @@
--- What the public functions promise, as the source states it, determines the answer. Assumes nothing.
-use mathlib.Core.Path.{_≡_, sym, _∙_}
-use Rattle.samples.proofs.crossing_alpha.Reads as crossing-alpha
+-- What each public function promises, as its source states it, determines the answer and every entry of what it is lent. Assumes nothing.
+use mathlib.Core.Path.{sym, _∙_}
+use Rattle.laws.specs.Promises.{OneAnswer}
 use Rattle.samples.proofs.is_inside.Reads as is-inside
+use Rattle.samples.proofs.is_finite.Reads as is-finite
+use Rattle.samples.proofs.finite_sample.Reads as finite-sample
+use Rattle.samples.proofs.mark_fraction.Reads as mark-fraction
+use Rattle.samples.proofs.point_fraction.Reads as point-fraction
+use Rattle.samples.proofs.crossing_alpha.Reads as crossing-alpha
 
-module _ {K : Type 0} {A : K → Type 0} {R : K → Type 0} {E : K → Type 0} where
-  abbrev pub Answers : ((κ : K) → A κ → R κ → E κ → Type 0) → Type 0
-  Answers Post = (κ : K) (a : A κ) (y z : R κ) (e f : E κ) → Post κ a y e → Post κ a z f → y ≡ z
+pub is-inside-determined : OneAnswer is-inside.Post
+is-inside-determined κ a y z e f p q = p ∙ sym q
 
-pub crossing-alpha-unique : Answers crossing-alpha.Post
-crossing-alpha-unique κs a y z e f p q = p ∙ sym q
+pub is-finite-determined : OneAnswer is-finite.Post
+is-finite-determined κ a y z e f p q = p ∙ sym q
 
-pub is-inside-unique : Answers is-inside.Post
-is-inside-unique κs a y z e f p q = p ∙ sym q
+pub finite-sample-determined : OneAnswer finite-sample.Post
+finite-sample-determined κ a y z e f p q = p ∙ sym q
+
+pub mark-fraction-determined : OneAnswer mark-fraction.Post
+mark-fraction-determined κ a y z e f p q = p ∙ sym q
+
+pub point-fraction-determined : OneAnswer point-fraction.Post
+point-fraction-determined κ a y z e f p q = p ∙ sym q
+
+pub crossing-alpha-determined : OneAnswer crossing-alpha.Post
+crossing-alpha-determined κ a y z e f p q = p ∙ sym q

@@ -1,3 +1,2 @@
--- Sides of the surface and crossings of edges, and examples of them (docs/SCOPE.md, S14.1).
+-- Sides of the surface and crossings of edges.
 pub mod Sides
-pub mod Examples

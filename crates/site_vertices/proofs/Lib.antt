@@ -5,3 +5,4 @@ pub mod Drawing
 pub mod Clusters
 pub mod Points
 pub mod Appending
+pub mod Determined

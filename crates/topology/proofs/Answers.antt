@@ -6,7 +6,7 @@ use mathlib.Core.List.{List, [], _∷_, _++_}
 use Prim.Native.Nat.{ℕ, zero, suc, _+_, _^_, _<_, _≤_}
 use native.Mathlib.Nat.{add-suc, suc-add, add-zero, zero-add}
 use native.Mathlib.Omega.{arith}
-use lib.ListN.{length, getD}
+use lib.ListN.{length}
 use lib.Ieee.{Float}
 use Rattle.laws.specs.Lists.{All, total}
 use Rattle.laws.specs.Ranges.{each}
@@ -16,13 +16,10 @@ use Rattle.laws.proofs.Ranges.{lt-or, eq-or, each-first, each-same, each-all, a
 use Rattle.laws.proofs.Digits.{digit-or-not, digit-pow-same, digit-pow-other, digit-high, low-pow}
 use Rattle.tables.specs.FlatHoles.{flatHole}
 use Rattle.samples.specs.declared.Sample.{Sample}
-use Rattle.samples.specs.declared.Sample.the-variants.{Missing}
-use Rattle.topology.specs.declared.Components.{Components}
 use Rattle.topology.specs.declared.TopologyCase.{TopologyCase}
 use Rattle.topology.specs.declared.TopologyCase.the-variants.{ClosedSurface, MultiHole, FlatHole, MultiSurface, SimpleSurface, DoNotCluster}
-use Rattle.topology.specs.declared.TopologyResult.{TopologyResult}
 use Rattle.topology.specs.Parts.{low, Component, Ascending, Parts, Partition}
-use Rattle.topology.specs.Walk.{fourteen, components, componentsOf}
+use Rattle.topology.specs.Walk.{fourteen, components}
 use Rattle.topology.specs.Flat.{endAt, pairsCollapse, rowFlat, isFlat}
 use Rattle.topology.specs.Topology.{Kind, empty, closed, surfaces, holes, single, kindOf, caseBy, singles, clustersIn, result, caseOf, topologyOf, isSingle, asksEnds}
 use Rattle.topology.proofs.Parts.{components-parts, parts-unique}
@@ -35,9 +32,6 @@ use Rattle.topology.proofs.Cases.{fourteen-own, fourteen-lt}
 
 pub components-only : (m : ℕ) (cs : List ℕ) → Parts (fourteen m) cs → cs ≡ components m
 components-only m cs p = parts-unique (fourteen m) cs (components m) (fourteen-lt m) p (components-parts m)
-
-pub components-answer : (m : ℕ) (r s : Components) → r ≡ componentsOf m → s ≡ componentsOf m → r ≡ s
-components-answer m r s p q = p ∙ sym q
 
 components-partition : (m : ℕ) → m < 2 ^ 14 → Partition m (components m)
 components-partition m h =
@@ -149,9 +143,6 @@ module _ (near : ℕ) (cluster : Bool) (ends : List Sample) (h : Float) where
   pub clusters-le : topologyOf near cluster ends h .clusters .count ≤ 14
   unfolding topologyOf
   clusters-le = clusters-by (caseOf near cluster ends h) (fourteen near) (fourteen-lt near) .1
-
-  pub topology-answer : (r s : TopologyResult) → r ≡ topologyOf near cluster ends h → s ≡ topologyOf near cluster ends h → r ≡ s
-  topology-answer r s p q = p ∙ sym q
 
 -- ---- what the answer depends on
 

@@ -9,3 +9,4 @@ pub mod Others
 pub mod Answers
 pub mod Ends
 pub mod FlatMeaning
+pub mod Determined

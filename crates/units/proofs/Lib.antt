@@ -5,3 +5,4 @@ pub mod Coordinates
 pub mod Rounding
 pub mod Meaning
 pub mod Examples
+pub mod Determined

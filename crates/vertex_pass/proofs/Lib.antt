@@ -3,3 +3,4 @@ pub mod Passing
 pub mod Vertex
 pub mod Site
 pub mod Box
+pub mod Determined

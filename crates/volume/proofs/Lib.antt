@@ -7,3 +7,4 @@ pub mod Answers
 pub mod Order
 pub mod Moved
 pub mod Examples
+pub mod Determined

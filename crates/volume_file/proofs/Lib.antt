@@ -3,3 +3,4 @@ pub mod Printing
 pub mod Reading
 pub mod Texts
 pub mod Example
+pub mod Determined

@@ -1,0 +1,2 @@
+-- What is proved of meshes beside the functions' own proofs.
+pub mod Determined

@@ -1,0 +1,2 @@
+-- The numbers to check by (docs/SCOPE.md, S14.1).
+pub mod Numbers

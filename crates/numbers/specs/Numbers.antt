@@ -1,0 +1,153 @@
+-- The numbers to check by (docs/SCOPE.md, S14.1): sides, crossings and marks, the topology test, cases. One table, one statement, which antt computes. Assumes nothing.
+use mathlib.Core.Path.{_≡_, refl}
+use mathlib.Core.Bool.{Bool, true, false}
+use mathlib.Core.List.{List, [], _∷_, map}
+use Prim.Native.Nat.{ℕ, _+_, _^_}
+use lib.IntN.{pos}
+use lib.ListN.{length}
+use lib.Count.{trailingZeros}
+use lib.Ieee.{Float, nan, inf, fin, binary64, lt, neg, sub, div, ofBits}
+use Rattle.laws.specs.Bools.{bit}
+use Rattle.laws.specs.Ranges.{each, any}
+use Rattle.laws.specs.Digits.{digit, isSet, mask}
+use Rattle.tables.specs.Edges.{areNeighbours, neighbourMask, corners, cornerOf, du, dv, dw}
+use Rattle.tables.specs.FlatHoles.{holeOf, flatHoles, flatHole}
+use Rattle.tables.specs.Cases.{mtRow}
+use Rattle.samples.specs.declared.Sample.{Sample}
+use Rattle.samples.specs.declared.Sample.the-variants.{Missing, Value}
+use Rattle.samples.specs.declared.Crossing.{Crossing}
+use Rattle.samples.specs.declared.Crossing.the-variants.{SameSide, At}
+use Rattle.samples.specs.Sides.{base, half, inside, finite, whenFinite, known, markFraction, crossing, isNear}
+use Rattle.lattice.specs.declared.Sides.{Sides}
+use Rattle.lattice.specs.Sites.{sites, inBox, siteOf, uvwOf, step}
+use Rattle.lattice.specs.Across.{upward, downward, acrossAt, acrossOf}
+use Rattle.marks.specs.Marks.{markedBy, marked, maskAt, masksOf}
+use Rattle.topology.specs.declared.TopologyCase.{TopologyCase}
+use Rattle.topology.specs.declared.TopologyCase.the-variants.{ClosedSurface, MultiHole, FlatHole, MultiSurface, SimpleSurface}
+use Rattle.topology.specs.declared.TopologyResult.{TopologyResult}
+use Rattle.topology.specs.Walk.{lowBit, found, remTurn, frTurn, compTurn, walk, first, componentsIn, components}
+use Rattle.topology.specs.Flat.{collapses, collapsesAt, pairsCollapse, rowFlat, isFlat}
+use Rattle.topology.specs.Topology.{kindOf, singles, result, caseOf, topologyOf}
+use Rattle.cases.specs.Cases.{caseFrom}
+
+-- ---- what is asked, and what is answered, with the threshold 1.0e-9
+
+pub data Ask : Type 0 where
+  -- which side is the value on?
+  side : Float → Ask
+  -- a box of 2 x 1 x 1 sites with these samples: its one edge leads from site 0, the owner, to site 1
+  edge : Float → Float → Ask
+  -- the topology test of a mask, to be clustered, with the samples at the fourteen ends
+  near : ℕ → List Sample → Ask
+  -- a tetrahedron with these samples at its four corners
+  tetrahedron : Sample → Sample → Sample → Sample → Ask
+
+pub data Answer : Type 0 where
+  -- whether it is inside
+  isInside : Bool → Answer
+  -- where the edge is crossed, and the masks of the two sites
+  isCrossed : Crossing → List ℕ → Answer
+  -- the case and the clusters
+  isCase : TopologyResult → Answer
+  -- the case and how many triangles it has
+  hasTriangles : ℕ → ℕ → Answer
+
+abbrev pub pair : Sides
+pair = record { nu = 2; nv = 1; nw = 1 }
+
+unfoldable pub answer : Ask → Answer
+answer (side v) = isInside (inside v base)
+answer (edge a b) = isCrossed (crossing a b base) (masksOf pair (a ∷ b ∷ []) base)
+answer (near m ends) = isCase (topologyOf m true ends base)
+answer (tetrahedron a b c d) = hasTriangles (caseFrom a b c d base) (length (mtRow (caseFrom a b c d base)))
+
+-- ---- how the rows are written
+
+abbrev pub plus : ℕ → Float
+plus n = fin false n (pos 0)
+
+abbrev pub minus : ℕ → Float
+minus n = fin true n (pos 0)
+
+-- a set of edges as a mask
+abbrev pub only : List ℕ → ℕ
+only [] = 0
+only (e ∷ es) = 2 ^ e + only es
+
+-- a mark: by the owner under its label 0, or by the other end under the label 7
+abbrev pub byOwner : List ℕ
+byOwner = only (0 ∷ []) ∷ only [] ∷ []
+
+abbrev pub byOther : List ℕ
+byOther = only [] ∷ only (7 ∷ []) ∷ []
+
+abbrev pub nobody : List ℕ
+nobody = only [] ∷ only [] ∷ []
+
+-- the case, and each cluster by its edges
+abbrev pub says : TopologyCase → List (List ℕ) → Answer
+says c clusters = isCase (result c (map only clusters))
+
+abbrev pub noEnds : List Sample
+noEnds = Missing ∷ Missing ∷ Missing ∷ Missing ∷ Missing ∷ Missing ∷ Missing ∷ Missing ∷ Missing ∷ Missing ∷ Missing ∷ Missing ∷ Missing ∷ Missing ∷ []
+
+-- s at ends 0 and 1, t at ends 4 and 13; the others are missing
+abbrev pub fourEnds : Float → Float → List Sample
+fourEnds s t =
+    Value s ∷ Value s ∷ Missing ∷ Missing ∷ Value t ∷ Missing ∷ Missing ∷ Missing ∷ Missing ∷ Missing ∷ Missing ∷ Missing ∷ Missing ∷ Value t ∷ []
+
+abbrev pub within : Sample
+within = Value (minus 1)
+
+abbrev pub outside : Sample
+outside = Value (plus 1)
+
+-- ---- the table
+
+pub record Row : Type 0 where
+  pub ask : Ask
+  pub gets : Answer
+
+abbrev pub row : Ask → Answer → Row
+row a x = record { ask = a; gets = x }
+
+unfoldable pub table : List Row
+table =
+    -- −1.0e-9 is outside, the next f64 below is inside, a NaN is outside
+    row (side (neg base)) (isInside false)
+    ∷ row (side (ofBits binary64 0xBE112E0BE826D696)) (isInside true)
+    ∷ row (side nan) (isInside false)
+    -- from 1 to −1 the fraction is exactly 0.5, and the other end is marked; from 1 to −3 it is 0.25, and the owner is
+    ∷ row (edge (plus 1) (minus 1)) (isCrossed (At half) byOther)
+    ∷ row (edge (plus 1) (minus 3)) (isCrossed (At (ofBits binary64 0x3FD0000000000000)) byOwner)
+    -- on one side there is no mark; a fraction that is NaN marks the other end
+    ∷ row (edge (plus 1) (plus 3)) (isCrossed SameSide nobody)
+    ∷ row (edge (inf false) (inf true)) (isCrossed (At nan) byOther)
+    -- masks, with their clusters by edges
+    ∷ row (near 0x0000 noEnds) (says SimpleSurface [])
+    ∷ row (near 0xC000 noEnds) (says SimpleSurface [])
+    ∷ row (near 0x3FFF noEnds)
+    (says ClosedSurface
+    ((0 ∷ []) ∷ (1 ∷ []) ∷ (2 ∷ []) ∷ (3 ∷ []) ∷ (4 ∷ []) ∷ (5 ∷ []) ∷ (6 ∷ []) ∷ (7 ∷ []) ∷ (8 ∷ []) ∷ (9 ∷ []) ∷ (10 ∷ []) ∷ (11 ∷ []) ∷ (12 ∷ []) ∷ (13 ∷ []) ∷ []))
+    ∷ row (near 0x0003 noEnds) (says SimpleSurface ((0 ∷ 1 ∷ []) ∷ []))
+    ∷ row (near 0x0081 noEnds) (says MultiSurface ((0 ∷ []) ∷ (7 ∷ []) ∷ []))
+    ∷ row (near 0x2015 noEnds) (says MultiHole ((0 ∷ []) ∷ (2 ∷ []) ∷ (4 ∷ []) ∷ (13 ∷ []) ∷ []))
+    -- 0x2014 is flat with 1 at the ends 0 and 1 and −3 at the ends 4 and 13, and is not with 3 at the ends 0 and 1, nor where an end is not finite
+    ∷ row (near 0x2014 (fourEnds (plus 1) (minus 3))) (says FlatHole ((2 ∷ []) ∷ (4 ∷ []) ∷ (13 ∷ []) ∷ []))
+    ∷ row (near 0x2014 (fourEnds (plus 3) (minus 3))) (says SimpleSurface ((2 ∷ 4 ∷ 13 ∷ []) ∷ []))
+    ∷ row (near 0x2014 (fourEnds (plus 1) (inf true))) (says SimpleSurface ((2 ∷ 4 ∷ 13 ∷ []) ∷ []))
+    -- corners −1, 1, 1, 1: case 1, one triangle; with a NaN, an infinity or a missing corner case 0
+    ∷ row (tetrahedron within outside outside outside) (hasTriangles 1 1)
+    ∷ row (tetrahedron within (Value nan) outside outside) (hasTriangles 0 0)
+    ∷ row (tetrahedron within outside outside (Value (inf true))) (hasTriangles 0 0)
+    ∷ row (tetrahedron within outside Missing outside) (hasTriangles 0 0)
+    ∷ row (tetrahedron within within outside outside) (hasTriangles 3 2)
+    ∷ row (tetrahedron within within within within) (hasTriangles 15 0)
+    ∷ []
+
+pub numbers : map (λ (r : Row). answer (r .ask)) table ≡ map (λ (r : Row). r .gets) table
+unfolding answer table inside finite whenFinite known markFraction crossing isNear lt neg sub div ofBits bit each any digit isSet mask trailingZeros
+    corners cornerOf du dv dw sites inBox siteOf uvwOf step upward downward acrossAt acrossOf markedBy marked maskAt masksOf
+    topologyOf caseOf kindOf singles isFlat rowFlat pairsCollapse collapsesAt collapses components componentsIn first walk remTurn frTurn compTurn found lowBit
+    neighbourMask areNeighbours flatHole flatHoles holeOf caseFrom mtRow
+numbers = refl

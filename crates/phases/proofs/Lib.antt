@@ -1,0 +1,2 @@
+-- What is proved of the wrappers beside their own proofs.
+pub mod Determined
