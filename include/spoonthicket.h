@@ -48,7 +48,7 @@ enum {
 
 /* The build of one box of nu * nv * nw samples (isovalue taken off, site u + nu * (v + nv * w)).
  *
- * method: 0 a vertex for each crossed edge, 1 averages by cluster. rounds: 0 to 4.
+ * method: 0 a vertex for each crossed edge whose two samples are finite, 1 averages by cluster. rounds: 0 to 4.
  * frame: origin on three axes, then step on three axes.
  *
  * Done (0), the front of each list holds:
@@ -75,7 +75,8 @@ size_t spoonthicket_build(
 
 /* The topology test of one mask of near intersections (bits 14 and 15 are passed over), with the values at the fourteen ends of the
  * site's edges; a value that is not finite counts as missing. Answers the case: 0 closed, 1 multihole, 2 flathole, 3 multisurface,
- * 4 simple, 5 not clustered (method other than 1). clusters gets a mask for each cluster, in order, and zeros behind them.
+ * 4 simple, 5 not clustered: a method other than 1, and a mask with one of the fourteen bits; without any it is 4 for every method.
+ * clusters gets a mask for each cluster, in order, and zeros behind them.
  */
 size_t spoonthicket_topology(uint16_t mask, size_t method, const double ends[14], uint16_t clusters[14]);
 

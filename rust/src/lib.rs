@@ -80,7 +80,7 @@ pub const NONE: u32 = 0xFFFF_FFFF;
 #[derive(Clone, Copy, Debug)]
 pub struct Request<'a> {
     pub sides: [usize; 3],
-    /// 0: a vertex for each crossed edge. 1: averages by cluster.
+    /// 0: a vertex for each crossed edge whose two samples are finite. 1: averages by cluster.
     pub method: usize,
     /// At most so many rollback rounds, 0 to 4.
     pub rounds: usize,
@@ -287,7 +287,8 @@ pub fn build(request: &Request) -> Result<Mesh, Refusal> {
     })
 }
 
-/// The topology test of one mask: the case's number and the clusters' masks. A value that is not finite counts as missing.
+/// The topology test of one mask: the case's number and the clusters' masks. A value that is not finite counts as missing. With a method other than 1
+/// the case is 5, not clustered; without any of the fourteen bits it is 4 for every method.
 pub fn topology(mask: u16, method: usize, ends: &[f64; 14]) -> (usize, Vec<u16>) {
     let mut clusters = [0; 14];
     let case = unsafe { linked::spoonthicket_topology(mask, method, ends, &mut clusters) };

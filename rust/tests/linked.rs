@@ -109,7 +109,7 @@ fn one_site() {
     }
 }
 
-/// Method 0: no cases are counted, each crossed edge has a vertex of its own.
+/// Method 0: no cases are counted, and each crossed edge, its samples being finite, has a vertex of its own.
 #[test]
 fn without_clusters() {
     let s = ball(1.0, -1.0);

@@ -1,21 +1,21 @@
 -- The premises of demand 3 can be met, all together and by real samples: the box of docs/SCOPE.md, S10.6, computed from its samples. Assumes nothing.
-use mathlib.Core.Path.{_≡_, refl, sym, ap, _∙_}
+use mathlib.Core.Path.{_≡_, refl, _∙_}
 use mathlib.Core.Bool.{Bool, true, false, not, cond}
 use mathlib.Core.List.{List, [], _∷_, _++_}
-use Prim.Native.Nat.{ℕ, _*_, _<_}
+use Prim.Native.Nat.{ℕ, _+_, _*_}
 use lib.Dec.{T}
 use lib.Ieee.{Float, binary64, le, ofBits}
-use lib.ListN.{replicate, take}
+use lib.ListN.{getD, replicate, take}
 use Rattle.laws.specs.Ranges.{all, sum}
 use Rattle.laws.specs.Lists.{count}
-use Rattle.laws.specs.Triangles.{flat, trisOf}
+use Rattle.laws.specs.Triangles.{trisOf}
 use Rattle.laws.proofs.Bools.{T-true}
 use Rattle.laws.proofs.Ranges.{all-at, all-at2}
 use Rattle.samples.specs.Sides.{base, inside, finite}
 use Rattle.lattice.specs.declared.Sides.{Sides}
-use Rattle.lattice.specs.Sites.{sideOk, sidesOk, sites, cells, inBox, siteOf, atEnd, onBorder}
+use Rattle.lattice.specs.Sites.{sideOk, sidesOk, cells, siteOf, atEnd, onBorder}
 use Rattle.lattice.proofs.OtherEnds.{box-in}
-use Rattle.marks.specs.Marks.{sample}
+use Rattle.marks.specs.Marks.{sample, crossedCount}
 use Rattle.march.specs.Runs.{runs}
 use Rattle.points.specs.Limits.{originOk, stepOk, originsOk, stepsOk, frameOk}
 use Rattle.refusals.specs.Refusals.{settingsOk, siteRoom, vertexRoom, cellRoom, most, statusOf}
@@ -54,11 +54,41 @@ pub box-finite : AllFinite three samples
 unfolding stagesKey AllFinite all
 box-finite s h = T-true (finite (sample samples s)) (all-at 27 (λ s. finite (sample samples s)) tt s h)
 
-pub box-outside : OneSide three samples base false
-unfolding stagesKey OneSide onBorder atEnd all
-box-outside u v w i o = ?
+-- at each site of the border: outside
+borderOut : ℕ → ℕ → ℕ → Bool
+borderOut u v w = cond (onBorder three u v w) (not (inside (sample samples (siteOf three u v w)) base)) true
 
--- ---- what follows of it, and the counts that are printed
+out-all : T (all 3 (λ w. all 3 (λ v. all 3 (λ u. borderOut u v w))))
+unfolding stagesKey onBorder atEnd all borderOut
+out-all = tt
+
+pub box-outside : OneSide three samples base false
+unfolding OneSide borderOut
+box-outside u v w i o =
+    let b = box-in three u v w i in
+    let t : T (borderOut u v w) = all-at 3 (λ u. borderOut u v w) (all-at2 3 3 (λ w v. all 3 (λ u. borderOut u v w)) out-all w v (b .on-w) (b .on-v)) u (b .on-u) in
+    go (inside (sample samples (siteOf three u v w)) base) (rw o at t)
+  where
+    go : (c : Bool) → T (not c) → c ≡ false
+    go true t = absurd t
+    go false t = refl
+
+-- ---- what follows of it: the fourteen crossed edges are held, and the triangles run each pair both ways
+
+crossings : crossedCount three samples base ≡ 14
+unfolding stagesKey
+crossings = refl
 
 pub box-held : sum (answerOf asked .vertices) (λ i. getD (listsAfter asked lent .book) (4 * i + 1) 0) ≡ 14
-box-held = ?
+box-held = left-held asked lent (listsAfter asked lent) (answerOf asked) box-left box-finite ∙ crossings
+
+pub box-runs : (p q : ℕ)
+    → count (runs p q) (trisOf (take (3 * answerOf asked .triangles) (listsAfter asked lent .triangles)))
+    ≡ count (runs q p) (trisOf (take (3 * answerOf asked .triangles) (listsAfter asked lent .triangles)))
+box-runs = left-runs asked lent (listsAfter asked lent) (answerOf asked) box-left box-finite false box-outside
+
+-- the counts that are printed: there is something to run
+pub box-counts : countsOf (answerOf asked) ≡ 14 ∷ 8 ∷ 12 ∷ 0 ∷ 0 ∷ 0 ∷ 0 ∷ 8 ∷ 0 ∷ 0 ∷ []
+unfolding stagesKey le originOk stepOk originsOk stepsOk frameOk sideOk sidesOk cells settingsOk siteRoom vertexRoom cellRoom most statusOf caseNumber isCase caseCount
+    orderBox orderVertices orderCases doneAnswer refusedAnswer answerOf countsOf
+box-counts = refl

@@ -1,5 +1,8 @@
 -- What each public function promises, as its source states it, determines the answer and every entry of what it is lent. Assumes nothing.
 use mathlib.Core.Path.{sym, _∙_}
+use mathlib.Core.List.{List}
+use Prim.Native.Nat.{ℕ}
+use lib.Ieee.{Float}
 use denote.Ref.{now}
 use Rattle.laws.specs.Promises.{OneAnswer, OneLeft, OneOutcome, OneLeftAsked}
 use Rattle.laws.proofs.Written.{written-unique}
@@ -23,7 +26,7 @@ phase-count-determined κ a y z e f p q = p ∙ sym q
 pub phase-mark-determined : OneLeft (λ κ e. now (e .1 .1 .1 .1 .0)) phase-mark.Post
 phase-mark-determined κ a y z e f p q = p ∙ sym q
 
-pub phase-draw-determined : OneOutcome (λ κ e. (now (e .1 .1 .1 .1 .1 .0), now (e .1 .1 .1 .1 .1 .1 .0), now (e .1 .1 .1 .1 .1 .1 .1 .0))) phase-draw.Post
+pub phase-draw-determined : OneOutcome {B = List ℕ × List Float × List ℕ} (λ κ e. (now (e .1 .1 .1 .1 .1 .0), now (e .1 .1 .1 .1 .1 .1 .0), now (e .1 .1 .1 .1 .1 .1 .1 .0))) phase-draw.Post
 phase-draw-determined κ a y z e f p q = let u = appended-unique _ _ _ p q in (u .0, λ i. (u .1 i, u .2 i, u .3 i))
 
 pub phase-march-determined : OneOutcome (λ κ e. now (e .1 .1 .1 .1 .1 .0)) phase-march.Post
