@@ -6,6 +6,7 @@ pub mod Blocks
 pub mod Sums
 pub mod Lists
 pub mod Digits
+pub mod Visits
 pub mod Written
 pub mod Filling
 pub mod Tails

@@ -3,6 +3,7 @@ pub mod Bools
 pub mod Ranges
 pub mod Lists
 pub mod Digits
+pub mod Visits
 pub mod Written
 pub mod Filling
 pub mod Couples
