@@ -1,22 +1,25 @@
--- The mask of a vertex's edges, digit by digit from the lowest. Assumes nothing.
-use mathlib.Core.Path.{_≡_, refl, sym, ap, ap₂, _∙_}
+-- The mask of a vertex's edges: the loop over the marks of its site. Assumes nothing.
+use mathlib.Core.Path.{_≡_, refl, sym, ap, _∙_}
 use mathlib.Core.Bool.{Bool, true, false, _&&_, cond}
-use mathlib.Core.List.{List, [], _∷_}
-use Prim.Native.Nat.{ℕ, zero, suc, _+_, _*_, _/_, _%_, _^_, _≤_, _<_}
+use mathlib.Core.List.{List, [], _∷_, _++_}
+use Prim.Native.Nat.{ℕ, zero, suc, _+_, _*_, _^_, _<_}
+use native.Mathlib.Nat.{pow-succ', one-mul}
 use native.Mathlib.Omega.{arith}
-use native.Mathlib.Numerals.{add-one}
-use native.Mathlib.Nat.{pow-succ', le-antisymm}
-use lib.Pow.{pow-mono}
+use lib.Bits.{bitOr, bitXor, or-shifted-r}
+use lib.Count.{trailingZeros}
 use lib.Dec.{eqb}
-use borrow.Author.Tests.{eq-eqb, ne-eqb}
 use lib.ListN.{length, getD}
 use Rattle.laws.specs.Bools.{bit}
-use Rattle.laws.specs.Digits.{digit, isSet, mask}
+use Rattle.laws.specs.Digits.{isSet, mask}
+use Rattle.laws.specs.Visits.{setPlaces, Visiting}
+use Rattle.laws.specs.Ranges.{each}
+use Rattle.laws.specs.Lists.{keep}
 use Rattle.laws.proofs.Digits.{mask-lt}
+use Rattle.laws.proofs.Lists.{keep-append, keep-both}
+use Rattle.laws.proofs.Visits.{visit-turn, visit-end}
 use Rattle.lattice.specs.declared.Sides.{Sides}
 use Rattle.stages.specs.Boxes.{owned}
 use Rattle.march.specs.March.{none}
-use Rattle.site_vertices.proofs.Drawing.{rest-set, rest-half}
 use Rattle.rollback.specs.Inner.Turning.{heldAt, heldMask}
 
 -- an entry of a list, whatever is read past its end
@@ -25,24 +28,22 @@ getD-any [] i c d h = let z : ⊥ = omega arith in absurd z
 getD-any (x ∷ l) zero c d h = refl
 getD-any (x ∷ l) (suc i) c d h = getD-any l i c d (omega arith)
 
--- ---- one edge
+-- what is read at an edge's place
+pub held-read : (n : Sides) (t : List ℕ) (s e i k : ℕ) → k ≡ owned n s e → k < length t → eqb (getD t k 0) i ≡ heldAt n t s i e
+unfolding heldAt
+held-read n t s e i k o low = ap (λ (x : ℕ). eqb x i) (getD-any t k 0 none low ∙ ap (λ (x : ℕ). getD t x none) o)
 
-module _ (n : Sides) (t : List ℕ) (s e i k : ℕ) (b : Bool) (w : b ≡ true) (o : k ≡ owned n s e) (low : k < length t) where
-  read : getD t k 0 ≡ getD t (owned n s e) none
-  read = getD-any t k 0 none low ∙ ap (λ (x : ℕ). getD t x none) o
+-- ---- a mask made place by place
 
-  pub digit-held : (d : ℕ) → getD t k 0 ≡ i → d ≡ cond (b && heldAt n t s i e) d 0
-  unfolding heldAt
-  digit-held d h = sym (rw (w, eq-eqb (getD t (owned n s e) none) i (sym read ∙ h)) refl)
+-- the digits at the places es set in x, one after the other
+unfoldable pub setAll : List ℕ → ℕ → ℕ
+setAll [] x = x
+setAll (e ∷ es) x = setAll es (bitOr x (2 ^ e))
 
-  pub digit-other : (d : ℕ) → (getD t k 0 ≡ i → ⊥) → 0 ≡ cond (b && heldAt n t s i e) d 0
-  unfolding heldAt
-  digit-other d h = sym (rw (w, ← read, ne-eqb (getD t k 0) i h) refl)
-
-pub digit-not : (b c : Bool) (d : ℕ) → b ≡ false → 0 ≡ cond (b && c) d 0
-digit-not b c d h = sym (rw h refl)
-
--- ---- the loop: after k edges the mask is a, the rest of the marks r, and d the next digit
+all-append : (es fs : List ℕ) (x : ℕ) → setAll (es ++ fs) x ≡ setAll fs (setAll es x)
+unfolding setAll
+all-append [] fs x = refl
+all-append (e ∷ es) fs x = all-append es fs (bitOr x (2 ^ e))
 
 -- one digit more, from the lowest
 mask-more : (k : ℕ) (p : ℕ → Bool) → mask (suc k) p ≡ mask k p + cond (p k) (2 ^ k) 0
@@ -58,38 +59,48 @@ mask-more (suc k) p = ap (λ (x : ℕ). bit (p 0) + 2 * x) (mask-more k (λ e. p
     go true = omega (arith, pow-succ' 2 k)
     go false = omega arith
 
-pub record Masked (n : Sides) (t : List ℕ) (s m i k a r d : ℕ) : Type 0 where
-  pub low : k ≤ 14
-  pub is-mask : a ≡ mask k (λ e. isSet m e && heldAt n t s i e)
-  pub power : d ≡ 2 ^ k
-  pub rest : (j : ℕ) → digit r j ≡ digit m (k + j)
+-- the places that pass a test make the test's mask
+all-mask : (k : ℕ) (p : ℕ → Bool) → setAll (keep p (each k (λ e. e ∷ []))) 0 ≡ mask k p
+unfolding setAll keep each mask
+all-mask zero p = refl
+all-mask (suc k) p =
+    ap (λ (l : List ℕ). setAll l 0) (keep-append p (each k (λ e. e ∷ [])) (k ∷ []))
+    ∙ all-append (keep p (each k (λ e. e ∷ []))) (cond (p k) (k ∷ []) []) 0
+    ∙ ap (setAll (cond (p k) (k ∷ []) [])) (all-mask k p) ∙ go (p k) ∙ sym (mask-more k p)
+  where
+    go : (c : Bool) → setAll (cond c (k ∷ []) []) (mask k p) ≡ mask k p + cond c (2 ^ k) 0
+    go true = ap (bitOr (mask k p)) (sym (one-mul (2 ^ k))) ∙ or-shifted-r 1 k (mask k p) (mask-lt k p) ∙ omega arith
+    go false = omega arith
 
-module _ (n : Sides) (t : List ℕ) (s m i : ℕ) where
-  pub masked-start : Masked n t s m i 0 0 m 1
-  unfolding mask
-  masked-start = record { low = omega arith; is-mask = refl; power = refl; rest = λ j. let z : j ≡ 0 + j = omega arith in ap (digit m) z }
+-- ---- the loop over the marks m: those of the edges that vertex i holds are set
 
-  pub masked-done : (k a r d : ℕ) → Masked n t s m i k a r d → 14 ≤ k → a ≡ heldMask n t s m i
-  unfolding heldMask
-  masked-done k a r d q h = q .is-mask ∙ ap (λ (x : ℕ). mask x (λ e. isSet m e && heldAt n t s i e)) (le-antisymm (q .low) h)
+abbrev pub Holds : Sides → List ℕ → ℕ → ℕ → List ℕ → ℕ → ℕ → Type 0
+Holds n t s i es x y = y ≡ setAll (keep (heldAt n t s i) es) x
 
-  module _ (k a r d : ℕ) (q : Masked n t s m i k a r d) (h : k < 14) where
-    -- the digits stay small
-    pub masked-small : (d ≤ 8192) × (a < 8192)
-    masked-small =
-        let p : 2 ^ k ≤ 2 ^ 13 = pow-mono {i = k} {j = 13} (omega arith) in
-        let l : mask k (λ e. isSet m e && heldAt n t s i e) < 2 ^ k = mask-lt k (λ e. isSet m e && heldAt n t s i e) in
-        (omega (arith, q .power), omega (arith, q .is-mask))
+module _ (n : Sides) (t : List ℕ) (s i : ℕ) where
+  holds-none : (x : ℕ) → Holds n t s i [] x x
+  unfolding setAll keep
+  holds-none x = refl
 
-    pub digit-small : (c : Bool) (x : ℕ) → x ≡ cond c d 0 → x ≤ 8192
-    digit-small true x e = omega (arith, e, masked-small .0)
-    digit-small false x e = omega (arith, e)
+  holds-more : (x y z e : ℕ) (es : List ℕ) → Holds n t s i (e ∷ []) x y → Holds n t s i es y z → Holds n t s i (e ∷ es) x z
+  holds-more x y z e es a c =
+      c ∙ ap (setAll (keep (heldAt n t s i) es)) a
+      ∙ sym (ap (λ (l : List ℕ). setAll l x) (keep-append (heldAt n t s i) (e ∷ []) es) ∙ all-append (keep (heldAt n t s i) (e ∷ [])) (keep (heldAt n t s i) es) x)
 
-    pub masked-turn : (x : ℕ) → x ≡ cond (eqb (r % 2) 1 && heldAt n t s i k) d 0 → Masked n t s m i (k + 1) (a + x) (r / 2) (d * 2)
-    masked-turn x e = record {
-      low = omega arith;
-      is-mask = ap₂ (λ (y v : ℕ). y + v) (q .is-mask) (e ∙ (λ j. cond (rest-set m k r (q .rest) j && heldAt n t s i k) (q .power j) 0))
-          ∙ sym (rw add-one (mask-more k (λ e. isSet m e && heldAt n t s i e)));
-      power = rw add-one (omega (arith, q .power, pow-succ' 2 k));
-      rest = rest-half m k r (q .rest);
-    }
+  module _ (m rest a : ℕ) (v : Visiting (Holds n t s i) 14 m 0 rest a) where
+    pub held-turn : 0 < rest → (b : Bool) → b ≡ heldAt n t s i (trailingZeros 16 rest)
+        → Visiting (Holds n t s i) 14 m 0 (bitXor rest (2 ^ trailingZeros 16 rest)) (cond b (bitOr a (2 ^ trailingZeros 16 rest)) a)
+    unfolding setAll keep
+    held-turn p b h = visit-turn (Holds n t s i) 16 holds-more (omega arith) p v (cond b (bitOr a (2 ^ trailingZeros 16 rest)) a) (rw (← h) (go b))
+      where
+        go : (c : Bool) → cond c (bitOr a (2 ^ trailingZeros 16 rest)) a ≡ setAll (cond c (trailingZeros 16 rest ∷ []) []) a
+        go true = refl
+        go false = refl
+
+    -- THE MASK IS THE VERTEX'S
+    pub held-end : rest ≡ 0 → a ≡ heldMask n t s m i
+    unfolding heldMask setPlaces
+    held-end z =
+        visit-end (Holds n t s i) (holds-none a) z v
+        ∙ ap (λ (l : List ℕ). setAll l 0) (keep-both (isSet m) (heldAt n t s i) (each 14 (λ e. e ∷ [])))
+        ∙ all-mask 14 (λ e. isSet m e && heldAt n t s i e)

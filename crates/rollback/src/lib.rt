@@ -2,7 +2,6 @@
 use lattice::Sides;
 use points::Frame;
 ghost use mathlib.Core.Path.{_≡_};
-ghost use mathlib.Core.Bool.{_&&_, cond};
 ghost use Prim.Native.Nat.{_+_, _*_, _<_, _≤_};
 ghost use lib.ListN.{length};
 ghost use Rattle.lattice.specs.Sites.{SidesFit, sites};
@@ -10,18 +9,13 @@ ghost use Rattle.site_vertices.specs.Inner.Appending.{Space};
 ghost use Rattle.rollback.specs.Inner.Rolling.{Ready, Rolled};
 ghost use Rattle.rollback.specs.Inner.Turning.{heldAt, heldMask, grown, Placed, Replaced, Turnable, Turned};
 
-// The digit of an edge, where it is marked and its place in the edge table has the number i.
-fn held_digit(n: Sides, table: &[u32], s: usize, e: usize, marked: bool, i: u32, digit: u16) -> u16
+// Whether the place of an edge in the edge table has the number i.
+fn holds(n: Sides, table: &[u32], s: usize, e: usize, i: u32) -> bool
     requires { ⌜ SidesFit n × (s < sites n) × (e < 14) × (7 * sites n ≤ length (now table)) ⌝ }
-    ensures { λ r. ⌜ r ≡ cond (marked && heldAt n (now (table .entry)) s i e) digit 0 ⌝ }
+    ensures { λ r. ⌜ r ≡ heldAt n (now (table .entry)) s i e ⌝ }
 {
-    if marked {
-        let k = site_vertices::edge_place(n, s, e);
-        if table[k] == i {
-            return digit;
-        }
-    }
-    0
+    let k = site_vertices::edge_place(n, s, e);
+    table[k] == i
 }
 
 // The edges of vertex i: those that its site has marked and whose places in the edge table have its number.
@@ -30,12 +24,14 @@ fn held_mask(n: Sides, table: &[u32], s: usize, marks: u16, i: u32) -> u16
     ensures { λ r. ⌜ r ≡ heldMask n (now (table .entry)) s marks i ⌝ }
 {
     let mut held = 0u16;
-    let mut rest = marks;
-    let mut digit = 1u16;
-    for e in 0..14 {
-        held = held + held_digit(n, table, s, e, rest % 2 == 1, i, digit);
-        rest = rest / 2;
-        digit = digit * 2;
+    let mut rest = marks & tables::ALL14_MASK;
+    while rest != 0 {
+        let e = u16::trailing_zeros(rest) as usize;
+        let b = 1u16 << e;
+        rest ^= b;
+        if holds(n, table, s, e, i) {
+            held |= b;
+        }
     }
     held
 }

@@ -2,36 +2,37 @@
 use mathlib.Core.Path.{_≡_, refl, sym, ap, _∙_}
 use mathlib.Core.Bool.{Bool, true, false, cond}
 use mathlib.Core.List.{List, [], _∷_, _++_, map}
-use Prim.Native.Nat.{ℕ, zero, suc, _+_, _*_, _-_, _/_, _%_, _≤_, _<_}
+use Prim.Native.Nat.{ℕ, suc, _+_, _*_, _-_, _^_, _≤_, _<_}
 use native.Mathlib.Omega.{arith}
-use lib.Dec.{eqb}
+use lib.Bits.{bitAnd, bitXor}
+use lib.Count.{trailingZeros}
 use lib.ListN.{length, set, length-append}
 use lib.Seq.{sets, length-sets}
 use lib.Ieee.{Float}
-use Rattle.laws.specs.Digits.{digit, isSet}
+use Rattle.laws.specs.Visits.{setPlaces, Visiting}
 use Rattle.laws.specs.Ranges.{each}
 use Rattle.laws.specs.Lists.{keep}
-use Rattle.laws.proofs.Ranges.{each-none, each-more, each-add}
-use Rattle.laws.proofs.Lists.{keep-append, map-append}
+use Rattle.laws.proofs.Ranges.{each-add}
+use Rattle.laws.proofs.Lists.{map-append}
+use Rattle.laws.proofs.Visits.{visit-start, visit-turn, visit-end, places-low, places-turn}
 use Rattle.laws.proofs.Written.{sets-append}
 use Rattle.lattice.specs.declared.Sides.{Sides}
 use Rattle.lattice.specs.Across.{acrossOf}
 use Rattle.points.specs.declared.Frame.{Frame}
 use Rattle.points.specs.declared.Point.{Point}
 use Rattle.points.specs.declared.Sum.{Sum}
-use Rattle.points.specs.declared.EdgePoint.{EdgePoint}
-use Rattle.points.specs.declared.EdgePoint.the-variants as on
-use Rattle.points.specs.Means.{none, meanOf, meanSum, more}
+use Rattle.points.specs.Means.{none, gather, sumOf, meanSum}
+use Rattle.points.proofs.Means.{mean-sum, sum-count}
 use Rattle.stages.specs.Boxes.{owned}
 use Rattle.stages.specs.Vertices.{Vertex, fresh, held}
 use Rattle.stages.specs.Meshes.{bookOf, numbers, positionsOf}
-use Rattle.stages.specs.Samples.{edgesOf, placeOf, pointBy, pointsOf, positionAt}
+use Rattle.stages.specs.Samples.{edgesOf, pointBy, pointsOf, positionAt}
 use Rattle.stages.specs.Inner.Steps.{number, paint, paintFrom}
 use Rattle.stages.proofs.Book.{book-append, book-length, positions-append, positions-length}
-use Rattle.site_vertices.specs.Inner.Drawing.{join, claim, joinEdge, claimEdge}
-use Rattle.site_vertices.proofs.Points.{isAt, point-at}
-use Rattle.site_vertices.proofs.Drawing.{rest-set, rest-half}
-use Rattle.site_vertices.specs.Inner.Appending.{Appended, Space, pointedOf, single, singlesOf}
+use Rattle.site_vertices.specs.Inner.Drawing.{EdgesDrawn}
+use Rattle.site_vertices.specs.Inner.Appending.{Appended, Space, pointedOf, singlesIn, singlesOf}
+use Rattle.site_vertices.proofs.Points.{points-long}
+use Rattle.site_vertices.proofs.Drawing.{pointed-append}
 
 -- ---- lists of vertices
 
@@ -87,12 +88,6 @@ module _ (f : Frame) (n : Sides) (S : List Float) where
       → Appended f n S ws i t p k j t′ p′ k′ → Appended f n S ws i t p k j₂ t₂ p₂ k₂ → (j ≡ j₂) × (t′ ≡ t₂) × (p′ ≡ p₂) × (k′ ≡ k₂)
   appended-unique a c = (a .next ∙ sym (c .next), a .table ∙ sym (c .table), a .positions ∙ sym (c .positions), a .book ∙ sym (c .book))
 
-  -- ---- turn by turn
-  module _ (g : ℕ → List Vertex) where
-    pub appended-turn : (m : ℕ) {i j l : ℕ} {t t′ t″ : List ℕ} {p p′ p″ : List Float} {k k′ k″ : List ℕ}
-        → Appended f n S (each m g) i t p k j t′ p′ k′ → Appended f n S (g m) j t′ p′ k′ l t″ p″ k″ → Appended f n S (each (m + 1) g) i t p k l t″ p″ k″
-    appended-turn m a c = appended-same (sym (each-more m g)) (appended-more a c)
-
 -- a list made in fewer turns is no longer
 pub each-longer : {A : Type 0} (g : ℕ → List A) (k m : ℕ) → k ≤ m → length (each k g) ≤ length (each m g)
 each-longer g k m h =
@@ -104,153 +99,132 @@ each-longer g k m h =
       length-append (each k g) (each (m - k) (λ i. g (k + i))),
     )
 
--- room for the next turn's vertices
-pub space-turn : (g : ℕ → List Vertex) (p p′ : List Float) (b b′ : List ℕ) (i j k m : ℕ) → Space p b (i + length (each m g)) → k < m → j ≡ i + length (each k g)
-    → length p′ ≡ length p → length b′ ≡ length b → Space p′ b′ (j + length (g k))
-space-turn g p p′ b b′ i j k m s h e lp lb =
-    let a : length (each (k + 1) g) ≤ length (each m g) = each-longer g (k + 1) m (omega arith) in
-    let c : length (each (k + 1) g) ≡ length (each k g) + length (g k) = ap length (each-more k g) ∙ length-append (each k g) (g k) in
-    record {
-      positions = omega (arith, s .positions, a, c, e, lp);
-      book = omega (arith, s .book, a, c, e, lb);
-      few = omega (arith, s .few, a, c, e);
-    }
-
 -- ---- one edge as a vertex of its own
 
-module _ (f : Frame) (n : Sides) (S : List Float) (s e r i : ℕ) (t : List ℕ) (p : List Float) (k : List ℕ) where
-  one : EdgePoint → List Vertex
-  one on.Missing = []
-  one (on.At q) = fresh r s (e ∷ []) ∷ []
+module _ (f : Frame) (n : Sides) (S : List Float) (s e r i : ℕ) (t t′ : List ℕ) (p : List Float) (k : List ℕ) (q₀ q : Sum) (e₀ : q₀ ≡ none)
+    (d : EdgesDrawn f n S s (e ∷ []) i t t′ q₀ q) where
+  -- the sum is that of its point, where it has one
+  point-sum : q ≡ sumOf (pointsOf f n S s (e ∷ []))
+  unfolding sumOf
+  point-sum = d .sum ∙ ap (λ (x : Sum). gather x (pointsOf f n S s (e ∷ []))) e₀
 
-  one-is : (o : EdgePoint) → map (λ e. fresh r s (e ∷ [])) (cond (isAt o) (e ∷ []) []) ≡ one o
-  unfolding isAt one
-  one-is on.Missing = refl
-  one-is (on.At q) = refl
+  counted : q .count ≡ length (pointedOf n S s (e ∷ []))
+  counted = ap (λ (x : Sum). x .count) point-sum ∙ sum-count (pointsOf f n S s (e ∷ [])) ∙ points-long f n S s (e ∷ [])
 
-  single-one : single n S r s e true ≡ one (placeOf f n S s (acrossOf n s e))
-  unfolding single pointedOf keep
-  single-one =
-      ap (λ (c : Bool). map (λ e. fresh r s (e ∷ [])) (cond c (e ∷ []) [])) (point-at f n S s (acrossOf n s e)) ∙ one-is (placeOf f n S s (acrossOf n s e))
+  pointed-none : q .count ≡ 0 → pointedOf n S s (e ∷ []) ≡ []
+  unfolding pointedOf keep
+  pointed-none h = go (pointBy S s (acrossOf n s e)) (sym counted ∙ h)
+    where
+      go : (c : Bool) → length (cond c (e ∷ []) []) ≡ 0 → cond c (e ∷ []) [] ≡ []
+      go true z = let y : ⊥ = omega arith in absurd y
+      go false z = refl
 
-  single-not : single n S r s e false ≡ []
-  unfolding single pointedOf keep
-  single-not = refl
+  pointed-one : (q .count ≡ 0 → ⊥) → pointedOf n S s (e ∷ []) ≡ e ∷ []
+  unfolding pointedOf keep
+  pointed-one h = go (pointBy S s (acrossOf n s e)) (λ (z : length (pointedOf n S s (e ∷ [])) ≡ 0). h (counted ∙ z))
+    where
+      go : (c : Bool) → (length (cond c (e ∷ []) []) ≡ 0 → ⊥) → cond c (e ∷ []) [] ≡ e ∷ []
+      go true z = refl
+      go false z = absurd (z refl)
 
-  none-one : (o : EdgePoint) → join o none .count ≡ 0 → Appended f n S (one o) i t p k i (claim o (owned n s e) i t) p k
-  unfolding join claim one more
-  none-one on.Missing h = appended-none f n S i t p k
-  none-one (on.At q) h = let z : ⊥ = omega arith in absurd z
+  -- WITHOUT A POINT NOTHING IS DONE
+  pub single-none : q .count ≡ 0 → Appended f n S (singlesIn n S r s (e ∷ [])) i t p k i t′ p k
+  unfolding singlesIn paint
+  single-none h = rw (d .table, pointed-none h) (appended-none f n S i t p k)
 
-  abbrev at : Point → List Float
-  at q = q .x ∷ q .y ∷ q .z ∷ []
+  -- WITH ONE IT IS A VERTEX
+  pub single-some : (z : Point) (p′ : List Float) (k′ : List ℕ) → (q .count ≡ 0 → ⊥) → z ≡ meanSum q → p′ ≡ sets p (3 * i) (z .x ∷ z .y ∷ z .z ∷ [])
+      → k′ ≡ sets k (4 * i) (s ∷ 1 ∷ 1 ∷ r ∷ []) → Appended f n S (singlesIn n S r s (e ∷ [])) i t p k (i + 1) t′ p′ k′
+  unfolding singlesIn paintFrom held fresh positionsOf positionAt bookOf
+  single-some z p′ k′ h ez ep ek =
+      let o = pointed-one h in
+      rw o (record {
+        next = refl;
+        table = d .table ∙ ap (λ (l : List ℕ). paint i (map (owned n s) l) t) o;
+        positions = ep ∙ ap (λ (x : Point). sets p (3 * i) (x .x ∷ x .y ∷ x .z ∷ [])) (ez ∙ ap meanSum point-sum ∙ mean-sum (pointsOf f n S s (e ∷ [])));
+        book = ek;
+      })
 
-  some-one : (o : EdgePoint) → placeOf f n S s (acrossOf n s e) ≡ o → (join o none .count ≡ 0 → ⊥)
-      → Appended f n S (one o) i t p k (i + 1) (claim o (owned n s e) i t) (sets p (3 * i) (at (meanSum (join o none)))) (sets k (4 * i) (s ∷ 1 ∷ 1 ∷ r ∷ []))
-  unfolding join claim one more paintFrom paint held positionsOf positionAt pointsOf meanOf meanSum bookOf fresh
-  some-one on.Missing q h = absurd (h refl)
-  some-one (on.At o) q h = record { next = refl; table = refl; positions = rw q refl; book = refl }
-
-  plain-none : (w : Bool) → joinEdge f n S s e w none .count ≡ 0 → Appended f n S (single n S r s e w) i t p k i (claimEdge f n S s e w i t) p k
-  unfolding joinEdge claimEdge
-  plain-none true h = appended-same f n S (sym single-one) (none-one (placeOf f n S s (acrossOf n s e)) h)
-  plain-none false h = appended-same f n S (sym single-not) (appended-none f n S i t p k)
-
-  plain-some : (w : Bool) → (joinEdge f n S s e w none .count ≡ 0 → ⊥)
-      → Appended f n S (single n S r s e w) i t p k (i + 1) (claimEdge f n S s e w i t) (sets p (3 * i) (at (meanSum (joinEdge f n S s e w none)))) (sets k (4 * i) (s ∷ 1 ∷ 1 ∷ r ∷ []))
-  unfolding joinEdge claimEdge
-  plain-some true h = appended-same f n S (sym single-one) (some-one (placeOf f n S s (acrossOf n s e)) refl h)
-  plain-some false h = absurd (h refl)
-
-  module _ (w : Bool) (q₀ q : Sum) (t′ : List ℕ) (e₀ : q₀ ≡ none) (eq : q ≡ joinEdge f n S s e w q₀) (et : t′ ≡ claimEdge f n S s e w i t) where
-    drawn : q ≡ joinEdge f n S s e w none
-    drawn = eq ∙ ap (joinEdge f n S s e w) e₀
-
-    -- WITHOUT A POINT NOTHING IS DONE
-    pub single-none : q .count ≡ 0 → Appended f n S (single n S r s e w) i t p k i t′ p k
-    single-none h = rw et (plain-none w (ap (λ (x : Sum). x .count) (sym drawn) ∙ h))
-
-    -- WITH ONE IT IS A VERTEX
-    pub single-some : (z : Point) (p′ : List Float) (k′ : List ℕ) → (q .count ≡ 0 → ⊥) → z ≡ meanSum q → p′ ≡ sets p (3 * i) (at z) → k′ ≡ sets k (4 * i) (s ∷ 1 ∷ 1 ∷ r ∷ [])
-        → Appended f n S (single n S r s e w) i t p k (i + 1) t′ p′ k′
-    single-some z p′ k′ h ez ep ek =
-        let a = plain-some w (λ (g : joinEdge f n S s e w none .count ≡ 0). h (ap (λ (x : Sum). x .count) drawn ∙ g)) in
-        record {
-          next = a .next;
-          table = et ∙ a .table;
-          positions = ep ∙ ap (λ (x : Point). sets p (3 * i) (at x)) (ez ∙ ap meanSum drawn) ∙ a .positions;
-          book = ek ∙ a .book;
-        }
-
-    pub single-long : (q .count ≡ 0 → ⊥) → length (single n S r s e w) ≡ 1
-    single-long h = omega (arith, plain-some w (λ (g : joinEdge f n S s e w none .count ≡ 0). h (ap (λ (x : Sum). x .count) drawn ∙ g)) .next)
+  pub single-long : (q .count ≡ 0 → ⊥) → length (singlesIn n S r s (e ∷ [])) ≡ 1
+  unfolding singlesIn
+  single-long h = rw (pointed-one h) refl
 
 -- ---- the edges of a mask
 
-module _ (n : Sides) (S : List Float) (r s m : ℕ) where
-  pointed-append : (xs ys : List ℕ) → map (λ e. fresh r s (e ∷ [])) (pointedOf n S s (xs ++ ys))
-      ≡ map (λ e. fresh r s (e ∷ [])) (pointedOf n S s xs) ++ map (λ e. fresh r s (e ∷ [])) (pointedOf n S s ys)
-  unfolding pointedOf
-  pointed-append xs ys =
-      ap (map (λ e. fresh r s (e ∷ []))) (keep-append (λ e. pointBy S s (acrossOf n s e)) xs ys)
-      ∙ map-append (λ e. fresh r s (e ∷ [])) (keep (λ e. pointBy S s (acrossOf n s e)) xs) (keep (λ e. pointBy S s (acrossOf n s e)) ys)
+module _ (n : Sides) (S : List Float) (r s : ℕ) where
+  singles-none : [] ≡ singlesIn n S r s []
+  unfolding singlesIn pointedOf keep
+  singles-none = refl
 
-  below : (k : ℕ) → each k (λ e. single n S r s e (isSet m e)) ≡ map (λ e. fresh r s (e ∷ [])) (pointedOf n S s (keep (isSet m) (numbers k)))
-  unfolding each numbers keep pointedOf single
-  below zero = refl
-  below (suc k) =
-      ap (λ (l : List Vertex). l ++ single n S r s k (isSet m k)) (below k)
-      ∙ sym (pointed-append (keep (isSet m) (numbers k)) (cond (isSet m k) (k ∷ []) []))
-      ∙ ap (λ (l : List ℕ). map (λ e. fresh r s (e ∷ [])) (pointedOf n S s l)) (sym (keep-append (isSet m) (each k (λ i. i ∷ [])) (k ∷ [])))
+  singles-append : (xs ys : List ℕ) → singlesIn n S r s (xs ++ ys) ≡ singlesIn n S r s xs ++ singlesIn n S r s ys
+  unfolding singlesIn
+  singles-append xs ys =
+      ap (map (λ e. fresh r s (e ∷ []))) (pointed-append n S s xs ys) ∙ map-append (λ e. fresh r s (e ∷ [])) (pointedOf n S s xs) (pointedOf n S s ys)
 
-  -- THE SINGLE VERTICES OF A MASK
-  pub singles-are : singlesOf n S r s m ≡ map (λ e. fresh r s (e ∷ [])) (pointedOf n S s (edgesOf m))
-  unfolding singlesOf edgesOf
-  singles-are = below 14
+  pub singles-are : (m : ℕ) → singlesOf n S r s m ≡ map (λ e. fresh r s (e ∷ [])) (pointedOf n S s (edgesOf m))
+  unfolding singlesOf singlesIn
+  singles-are m = refl
 
--- ---- the loop: after the edges below e the lists are t, p and k, the next number is j, and rest is what is left of the mask
+-- ---- the loop over the edges of the mask m: from the lists t₀, p₀ and k₀ to t, p and k, the next number is j, and the edges of rest are left
 
-pub record Parted (f : Frame) (n : Sides) (S : List Float) (r s m i : ℕ) (t₀ : List ℕ) (p₀ : List Float) (k₀ : List ℕ) (e : ℕ) (t : List ℕ) (p : List Float)
+-- the next number, the table, the positions and the book
+abbrev pub Lists : Type 0
+Lists = ℕ × List ℕ × List Float × List ℕ
+
+abbrev pub Appends : Frame → Sides → List Float → ℕ → ℕ → List ℕ → Lists → Lists → Type 0
+Appends f n S r s es a b = Appended f n S (singlesIn n S r s es) (a .0) (a .1) (a .2) (a .3) (b .0) (b .1) (b .2) (b .3)
+
+pub record Appending (f : Frame) (n : Sides) (S : List Float) (r s m i : ℕ) (t₀ : List ℕ) (p₀ : List Float) (k₀ : List ℕ) (t : List ℕ) (p : List Float)
     (k : List ℕ) (j rest : ℕ) : Type 0 where
-  pub low : e ≤ 14
-  pub done : Appended f n S (each e (λ e. single n S r s e (isSet m e))) i t₀ p₀ k₀ j t p k
+  pub visits : Visiting (Appends f n S r s) 14 m (i, t₀, p₀, k₀) rest (j, t, p, k)
+  pub space : Space p k (j + length (singlesIn n S r s (setPlaces 14 rest)))
   pub long : length t ≡ length t₀
   pub long-positions : length p ≡ length p₀
   pub long-book : length k ≡ length k₀
-  pub left : (d : ℕ) → digit rest d ≡ digit m (e + d)
 
 module _ (f : Frame) (n : Sides) (S : List Float) (r s m i : ℕ) (t₀ : List ℕ) (p₀ : List Float) (k₀ : List ℕ) where
-  pub parted-start : Parted f n S r s m i t₀ p₀ k₀ 0 t₀ p₀ k₀ i m
-  parted-start = record {
-    low = omega arith;
-    done = appended-same f n S (sym (each-none (λ e. single n S r s e (isSet m e)))) (appended-none f n S i t₀ p₀ k₀);
+  pub appending-start : Space p₀ k₀ (i + length (singlesOf n S r s m)) → Appending f n S r s m i t₀ p₀ k₀ t₀ p₀ k₀ i (bitAnd m 0x3FFF)
+  unfolding singlesOf edgesOf numbers setPlaces
+  appending-start z = record {
+    visits = visit-start (Appends f n S r s) 14 m (i, t₀, p₀, k₀);
+    space = rw (places-low 14 m) z;
     long = refl;
     long-positions = refl;
     long-book = refl;
-    left = λ d. let z : d ≡ 0 + d = omega arith in ap (digit m) z;
   }
 
-  module _ (e : ℕ) (t : List ℕ) (p : List Float) (k : List ℕ) (j rest : ℕ) (d : Parted f n S r s m i t₀ p₀ k₀ e t p k j rest) (h : e < 14) where
-    pub parted-space : Space p₀ k₀ (i + length (singlesOf n S r s m)) → Space p k (j + length (single n S r s e (eqb (rest % 2) 1)))
-    unfolding singlesOf
-    parted-space z =
-        rw (rest-set m e rest (d .left))
-        (space-turn (λ e. single n S r s e (isSet m e)) p₀ p k₀ k i j e 14 z h (d .done .next) (d .long-positions) (d .long-book))
+  module _ (t : List ℕ) (p : List Float) (k : List ℕ) (j rest : ℕ) (d : Appending f n S r s m i t₀ p₀ k₀ t p k j rest) where
+    module _ (o : 0 < rest) where
+      first-more : length (singlesIn n S r s (setPlaces 14 rest))
+          ≡ length (singlesIn n S r s (trailingZeros 16 rest ∷ [])) + length (singlesIn n S r s (setPlaces 14 (bitXor rest (2 ^ trailingZeros 16 rest))))
+      first-more =
+          let l = trailingZeros 16 rest in
+          let others = setPlaces 14 (bitXor rest (2 ^ l)) in
+          ap (λ (es : List ℕ). length (singlesIn n S r s es)) (places-turn 16 14 rest (omega arith) o (d .visits .short))
+          ∙ ap length (singles-append n S r s (l ∷ []) others) ∙ length-append (singlesIn n S r s (l ∷ [])) (singlesIn n S r s others)
 
-    pub parted-turn : (t′ : List ℕ) (p′ : List Float) (k′ : List ℕ) (j′ : ℕ) → Appended f n S (single n S r s e (eqb (rest % 2) 1)) j t p k j′ t′ p′ k′ → length t′ ≡ length t
-        → Parted f n S r s m i t₀ p₀ k₀ (e + 1) t′ p′ k′ j′ (rest / 2)
-    parted-turn t′ p′ k′ j′ a l = record {
-      low = omega arith;
-      done = appended-turn f n S (λ e. single n S r s e (isSet m e)) e (d .done)
-          (appended-same f n S (ap (single n S r s e) (rest-set m e rest (d .left))) a);
-      long = l ∙ d .long;
-      long-positions = appended-lengths f n S a .0 ∙ d .long-positions;
-      long-book = appended-lengths f n S a .1 ∙ d .long-book;
-      left = rest-half m e rest (d .left);
-    }
+      pub appending-space : Space p k (j + length (singlesIn n S r s (trailingZeros 16 rest ∷ [])))
+      appending-space =
+          record { positions = omega (arith, d .space .positions, first-more); book = omega (arith, d .space .book, first-more); few = omega (arith, d .space .few, first-more) }
 
-  pub parted-done : (e : ℕ) (t : List ℕ) (p : List Float) (k : List ℕ) (j rest : ℕ) → Parted f n S r s m i t₀ p₀ k₀ e t p k j rest → 14 ≤ e
-      → Appended f n S (singlesOf n S r s m) i t₀ p₀ k₀ j t p k
-  unfolding singlesOf
-  parted-done e t p k j rest d h =
-      let z : e ≡ 14 = omega (arith, d .low) in appended-same f n S (ap (λ (x : ℕ). each x (λ e. single n S r s e (isSet m e))) z) (d .done)
+      pub appending-turn : (t′ : List ℕ) (p′ : List Float) (k′ : List ℕ) (j′ : ℕ) → Appended f n S (singlesIn n S r s (trailingZeros 16 rest ∷ [])) j t p k j′ t′ p′ k′
+          → length t′ ≡ length t → Appending f n S r s m i t₀ p₀ k₀ t′ p′ k′ j′ (bitXor rest (2 ^ trailingZeros 16 rest))
+      appending-turn t′ p′ k′ j′ a l =
+          let long-p = appended-lengths f n S a .0 in
+          let long-k = appended-lengths f n S a .1 in
+          record {
+            visits = visit-turn (Appends f n S r s) 16 (λ x y z e es v w. appended-same f n S (sym (singles-append n S r s (e ∷ []) es)) (appended-more f n S v w)) (omega arith) o (d .visits) (j′, t′, p′, k′) a;
+            space = record {
+              positions = omega (arith, d .space .positions, first-more, a .next, long-p);
+              book = omega (arith, d .space .book, first-more, a .next, long-k);
+              few = omega (arith, d .space .few, first-more, a .next);
+            };
+            long = l ∙ d .long;
+            long-positions = long-p ∙ d .long-positions;
+            long-book = long-k ∙ d .long-book;
+          }
+
+    -- ALL EDGES OF THE MASK ARE APPENDED
+    pub appending-end : rest ≡ 0 → Appended f n S (singlesOf n S r s m) i t₀ p₀ k₀ j t p k
+    unfolding singlesOf edgesOf numbers setPlaces
+    appending-end z = visit-end (Appends f n S r s) (appended-same f n S (singles-none n S r s) (appended-none f n S j t p k)) z (d .visits)

@@ -1,15 +1,19 @@
--- A vertex drawn edge by edge: the ways out of one edge, and what the loop keeps. Assumes nothing.
+-- Edges drawn one after the other: the two ways out of one edge, and the loop over the edges of a cluster. Assumes nothing.
 use mathlib.Core.Path.{_≡_, refl, sym, ap, _∙_}
 use mathlib.Core.Logic.{⊎-elim}
-use mathlib.Core.Bool.{Bool, true, false}
-use mathlib.Core.List.{List}
-use Prim.Native.Nat.{ℕ, suc, _+_, _*_, _/_, _%_, _≤_, _<_}
+use mathlib.Core.List.{List, [], _∷_, _++_, map, append-assoc}
+use Prim.Native.Nat.{ℕ, suc, _+_, _*_, _^_, _≤_, _<_}
 use native.Mathlib.Omega.{arith}
-use lib.Dec.{eqb}
+use lib.Bits.{bitAnd, bitXor}
+use lib.Count.{trailingZeros, onesIn}
 use lib.ListN.{length, set}
 use lib.Ieee.{Float}
-use Rattle.laws.specs.Digits.{digit, isSet}
-use Rattle.laws.proofs.Ranges.{lt-or, fold-none, fold-turn}
+use Rattle.laws.specs.Visits.{setPlaces, Visiting}
+use Rattle.laws.specs.Lists.{keep}
+use Rattle.laws.proofs.Ranges.{lt-or}
+use Rattle.laws.proofs.Lists.{keep-append, map-append}
+use Rattle.laws.proofs.Digits.{ones-le}
+use Rattle.laws.proofs.Visits.{visit-start, visit-turn, visit-end, off-less}
 use Rattle.lattice.specs.declared.Sides.{Sides}
 use Rattle.lattice.specs.Sites.{sites}
 use Rattle.lattice.specs.Across.{acrossOf}
@@ -18,96 +22,106 @@ use Rattle.points.specs.declared.Point.{Point}
 use Rattle.points.specs.declared.Sum.{Sum}
 use Rattle.points.specs.declared.EdgePoint.{EdgePoint}
 use Rattle.points.specs.declared.EdgePoint.the-variants as on
-use Rattle.points.specs.Means.{none, more}
+use Rattle.points.specs.Means.{none, more, gather, sumOf}
 use Rattle.stages.specs.Boxes.{owned}
-use Rattle.stages.specs.Samples.{placeOf}
+use Rattle.stages.specs.Meshes.{numbers}
+use Rattle.stages.specs.Samples.{edgesOf, pointBy, placeOf, listed, pointsOf}
+use Rattle.stages.specs.Inner.Steps.{paint}
 use Rattle.stages.proofs.SampleMarks.{owned-low, owned-high}
-use Rattle.site_vertices.specs.Inner.Drawing.{join, claim, joinEdge, claimEdge, joinTo, claimTo}
+use Rattle.site_vertices.specs.Inner.Appending.{pointedOf}
+use Rattle.site_vertices.specs.Inner.Drawing.{EdgesDrawn, ClusterDrawn}
+use Rattle.site_vertices.proofs.Points.{isAt, point-at}
 
 -- an edge's place is in the table
 pub place-low : (n : Sides) (s e : ℕ) → s < sites n → e < 14 → owned n s e < 7 * sites n
 place-low n s e h k = ⊎-elim (λ l. omega (arith, owned-low n s e l)) (λ g. omega (arith, owned-high n s e g)) (lt-or e 7)
 
-module _ (f : Frame) (n : Sides) (S : List Float) (s e : ℕ) where
-  pub join-none : (b : Bool) (q : Sum) → b ≡ true → placeOf f n S s (acrossOf n s e) ≡ on.Missing → q ≡ joinEdge f n S s e b q
-  unfolding joinEdge join
-  join-none b q h a = sym (rw (h, a) refl)
+-- ---- lists joined
 
-  pub join-some : (b : Bool) (q : Sum) (p : Point) → b ≡ true → placeOf f n S s (acrossOf n s e) ≡ on.At p → more q p ≡ joinEdge f n S s e b q
-  unfolding joinEdge join
-  join-some b q p h a = sym (rw (h, a) refl)
+gather-append : (q : Sum) (ps rs : List Point) → gather q (ps ++ rs) ≡ gather (gather q ps) rs
+gather-append q [] rs = refl
+gather-append q (p ∷ ps) rs = gather-append (more q p) ps rs
 
-  pub join-not : (b : Bool) (q : Sum) → b ≡ false → q ≡ joinEdge f n S s e b q
-  unfolding joinEdge
-  join-not b q h = sym (rw h refl)
+paint-append : (i : ℕ) (ks ls t : List ℕ) → paint i (ks ++ ls) t ≡ paint i ls (paint i ks t)
+unfolding paint
+paint-append i [] ls t = refl
+paint-append i (k ∷ ks) ls t = paint-append i ks ls (set t k i)
 
-  pub claim-none : (b : Bool) (i : ℕ) (t : List ℕ) → b ≡ true → placeOf f n S s (acrossOf n s e) ≡ on.Missing → t ≡ claimEdge f n S s e b i t
-  unfolding claimEdge claim
-  claim-none b i t h a = sym (rw (h, a) refl)
+pub pointed-append : (n : Sides) (S : List Float) (s : ℕ) (xs ys : List ℕ) → pointedOf n S s (xs ++ ys) ≡ pointedOf n S s xs ++ pointedOf n S s ys
+unfolding pointedOf
+pointed-append n S s xs ys = keep-append (λ e. pointBy S s (acrossOf n s e)) xs ys
 
-  pub claim-some : (b : Bool) (i k : ℕ) (t : List ℕ) (p : Point) → b ≡ true → placeOf f n S s (acrossOf n s e) ≡ on.At p → k ≡ owned n s e
-      → set t k i ≡ claimEdge f n S s e b i t
-  unfolding claimEdge claim
-  claim-some b i k t p h a o = sym (rw (h, a, ← o) refl)
+module _ (f : Frame) (n : Sides) (S : List Float) (s : ℕ) where
+  points-append : (xs ys : List ℕ) → pointsOf f n S s (xs ++ ys) ≡ pointsOf f n S s xs ++ pointsOf f n S s ys
+  unfolding pointsOf
+  points-append [] ys = refl
+  points-append (e ∷ xs) ys =
+      ap (λ (l : List Point). listed (placeOf f n S s (acrossOf n s e)) ++ l) (points-append xs ys)
+      ∙ sym (append-assoc (listed (placeOf f n S s (acrossOf n s e))) (pointsOf f n S s xs) (pointsOf f n S s ys))
 
-  pub claim-not : (b : Bool) (i : ℕ) (t : List ℕ) → b ≡ false → t ≡ claimEdge f n S s e b i t
-  unfolding claimEdge
-  claim-not b i t h = sym (rw h refl)
+  -- ---- one edge
 
-  -- an edge adds at most one point
-  join-count : (o : EdgePoint) (q : Sum) → join o q .count ≤ suc (q .count)
-  unfolding join more
-  join-count on.Missing q = omega arith
-  join-count (on.At p) q = omega arith
+  module _ (i e : ℕ) (t : List ℕ) (q : Sum) where
+    pub edge-none : placeOf f n S s (acrossOf n s e) ≡ on.Missing → EdgesDrawn f n S s (e ∷ []) i t t q q
+    unfolding pointsOf pointedOf keep paint isAt
+    edge-none a = record { sum = sym (rw a refl); table = sym (rw (point-at f n S s (acrossOf n s e), a) refl) }
 
-  pub joined-count : (b : Bool) (q : Sum) → joinEdge f n S s e b q .count ≤ suc (q .count)
-  unfolding joinEdge
-  joined-count true q = join-count (placeOf f n S s (acrossOf n s e)) q
-  joined-count false q = omega arith
+    pub edge-some : (p : Point) (k : ℕ) → placeOf f n S s (acrossOf n s e) ≡ on.At p → k ≡ owned n s e → EdgesDrawn f n S s (e ∷ []) i t (set t k i) q (more q p)
+    unfolding pointsOf pointedOf keep paint isAt
+    edge-some p k a o = record { sum = sym (rw a refl); table = sym (rw (point-at f n S s (acrossOf n s e), a, ← o) refl) }
 
--- ---- a mask taken apart digit by digit: r is what is left of m behind its k lowest digits
+  -- it adds at most one point
+  point-count : (o : EdgePoint) (q : Sum) → gather q (listed o ++ []) .count ≤ suc (q .count)
+  unfolding more
+  point-count on.Missing q = omega arith
+  point-count (on.At p) q = omega arith
 
-pub rest-set : (m k r : ℕ) → ((j : ℕ) → digit r j ≡ digit m (k + j)) → eqb (r % 2) 1 ≡ isSet m k
-unfolding isSet digit
-rest-set m k r d = let z : k + 0 ≡ k = omega arith in ap (λ (x : ℕ). eqb x 1) (d 0 ∙ ap (digit m) z)
+  edge-count : {i e : ℕ} {t t′ : List ℕ} {q r : Sum} → EdgesDrawn f n S s (e ∷ []) i t t′ q r → r .count ≤ suc (q .count)
+  unfolding pointsOf
+  edge-count {i} {e} {t} {t′} {q} {r} d = omega (arith, ap (λ (x : Sum). x .count) (d .sum), point-count (placeOf f n S s (acrossOf n s e)) q)
 
-pub rest-half : (m k r : ℕ) → ((j : ℕ) → digit r j ≡ digit m (k + j)) → (j : ℕ) → digit (r / 2) j ≡ digit m (k + 1 + j)
-unfolding digit
-rest-half m k r d j = let z : k + suc j ≡ k + 1 + j = omega arith in d (suc j) ∙ ap (digit m) z
+  -- ---- edge after edge
 
--- ---- the loop: after k edges the table is t, the sum q, and the rest of the mask r
+  drawn-none : (i : ℕ) (t : List ℕ) (q : Sum) → EdgesDrawn f n S s [] i t t q q
+  unfolding pointsOf pointedOf keep paint
+  drawn-none i t q = record { sum = refl; table = refl }
 
-pub record Drawn (f : Frame) (n : Sides) (S : List Float) (s m i : ℕ) (t₀ : List ℕ) (k : ℕ) (t : List ℕ) (q : Sum) (r : ℕ) : Type 0 where
-  pub low : k ≤ 14
-  pub sum : q ≡ joinTo f n S s m k
-  pub table : t ≡ claimTo f n S s m i k t₀
-  pub long : length t ≡ length t₀
-  pub few : q .count ≤ k
-  pub rest : (j : ℕ) → digit r j ≡ digit m (k + j)
-
-module _ (f : Frame) (n : Sides) (S : List Float) (s m i : ℕ) (t₀ : List ℕ) where
-  pub drawn-start : (q : Sum) → q ≡ none → Drawn f n S s m i t₀ 0 t₀ q m
-  unfolding joinTo claimTo
-  drawn-start q e = record {
-    low = omega arith;
-    sum = e ∙ sym (fold-none _ _);
-    table = sym (fold-none _ _);
-    long = refl;
-    few = rw e (omega arith);
-    rest = λ j. let z : j ≡ 0 + j = omega arith in ap (digit m) z;
+  drawn-more : {i : ℕ} {xs ys t t′ t″ : List ℕ} {q q′ q″ : Sum} → EdgesDrawn f n S s xs i t t′ q q′ → EdgesDrawn f n S s ys i t′ t″ q′ q″
+      → EdgesDrawn f n S s (xs ++ ys) i t t″ q q″
+  drawn-more {i} {xs} {ys} {t} {t′} {t″} {q} {q′} {q″} a c = record {
+    sum = c .sum ∙ ap (λ (x : Sum). gather x (pointsOf f n S s ys)) (a .sum) ∙ sym (gather-append q (pointsOf f n S s xs) (pointsOf f n S s ys))
+        ∙ ap (gather q) (sym (points-append xs ys));
+    table = c .table ∙ ap (paint i (map (owned n s) (pointedOf n S s ys))) (a .table)
+        ∙ sym (paint-append i (map (owned n s) (pointedOf n S s xs)) (map (owned n s) (pointedOf n S s ys)) t)
+        ∙ ap (λ (l : List ℕ). paint i l t) (sym (ap (map (owned n s)) (pointed-append n S s xs ys) ∙ map-append (owned n s) (pointedOf n S s xs) (pointedOf n S s ys)));
   }
 
-  module _ (k : ℕ) (t t′ : List ℕ) (q q′ : Sum) (r : ℕ) (b : Bool) (d : Drawn f n S s m i t₀ k t q r) (h : k < 14) (w : b ≡ eqb (r % 2) 1) where
-    wanted : b ≡ isSet m k
-    wanted = w ∙ rest-set m k r (d .rest)
+-- ---- the loop over the edges of the mask m: from the table t₀ to t the sum is q, and the edges of rest are left
 
-    pub drawn-turn : q′ ≡ joinEdge f n S s k b q → t′ ≡ claimEdge f n S s k b i t → length t′ ≡ length t → Drawn f n S s m i t₀ (k + 1) t′ q′ (r / 2)
-    unfolding joinTo claimTo
-    drawn-turn a c l = record {
-      low = omega arith;
-      sum = fold-turn _ k _ q q′ (d .sum) (a ∙ ap (λ (x : Bool). joinEdge f n S s k x q) wanted);
-      table = fold-turn _ k _ t t′ (d .table) (c ∙ ap (λ (x : Bool). claimEdge f n S s k x i t) wanted);
+abbrev pub Draws : Frame → Sides → List Float → ℕ → ℕ → List ℕ → Sum × List ℕ → Sum × List ℕ → Type 0
+Draws f n S s i es a b = EdgesDrawn f n S s es i (a .1) (b .1) (a .0) (b .0)
+
+pub record Drawing (f : Frame) (n : Sides) (S : List Float) (s m i : ℕ) (t₀ t : List ℕ) (q : Sum) (rest : ℕ) : Type 0 where
+  pub visits : Visiting (Draws f n S s i) 14 m (none, t₀) rest (q, t)
+  pub long : length t ≡ length t₀
+  pub few : q .count + onesIn 14 rest ≤ 14
+
+module _ (f : Frame) (n : Sides) (S : List Float) (s m i : ℕ) (t₀ : List ℕ) where
+  pub drawing-start : (q : Sum) → q ≡ none → Drawing f n S s m i t₀ t₀ q (bitAnd m 0x3FFF)
+  drawing-start q e = rw e (record { visits = visit-start (Draws f n S s i) 14 m (none, t₀); long = refl; few = omega (arith, ones-le 14 (bitAnd m 0x3FFF)) })
+
+  module _ (t : List ℕ) (q : Sum) (rest : ℕ) (d : Drawing f n S s m i t₀ t q rest) where
+    pub drawing-turn : 0 < rest → (t′ : List ℕ) (q′ : Sum) → EdgesDrawn f n S s (trailingZeros 16 rest ∷ []) i t t′ q q′ → length t′ ≡ length t
+        → Drawing f n S s m i t₀ t′ q′ (bitXor rest (2 ^ trailingZeros 16 rest))
+    drawing-turn p t′ q′ a l = record {
+      visits = visit-turn (Draws f n S s i) 16 (λ x y z e es. drawn-more f n S s) (omega arith) p (d .visits) (q′, t′) a;
       long = l ∙ d .long;
-      few = rw a (omega (arith, joined-count f n S s k b q, d .few));
-      rest = rest-half m k r (d .rest);
+      few = omega (arith, d .few, off-less 16 14 rest (omega arith) p (d .visits .short), edge-count f n S s a);
     }
+
+    -- THE SUM AND THE TABLE ARE THE CLUSTER'S
+    pub drawing-end : rest ≡ 0 → ClusterDrawn f n S s m i t₀ t q
+    unfolding edgesOf numbers setPlaces sumOf
+    drawing-end z =
+        let a = visit-end (Draws f n S s i) (drawn-none f n S s i t q) z (d .visits) in
+        record { sum = a .sum; table = a .table }

@@ -2,7 +2,6 @@
 pub mod Ends
 pub mod Places
 pub mod Drawing
-pub mod Clusters
 pub mod Points
 pub mod Appending
 pub mod Determined

@@ -16,8 +16,8 @@ ghost use Rattle.lattice.specs.Across.{acrossOf};
 ghost use Rattle.marks.specs.Inner.Loops.{Sampled};
 ghost use Rattle.stages.specs.Boxes.{reach, owned};
 ghost use Rattle.stages.specs.Samples.{endBy, endsOf, placeOf};
-ghost use Rattle.site_vertices.specs.Inner.Drawing.{joinEdge, claimEdge, Drawable, ClusterDrawn, VertexPut};
-ghost use Rattle.site_vertices.specs.Inner.Appending.{Appended, Space, single, singlesOf};
+ghost use Rattle.site_vertices.specs.Inner.Drawing.{Drawable, EdgesDrawn, ClusterDrawn, VertexPut};
+ghost use Rattle.site_vertices.specs.Inner.Appending.{Appended, Space, singlesIn, singlesOf};
 
 // The sample at the other end of an edge.
 fn end_at(n: Sides, samples: &[f64], s: usize, e: usize) -> Sample
@@ -94,7 +94,7 @@ fn place_of(frame: Frame, n: Sides, samples: &[f64], s: usize, e: usize) -> Edge
     }
 }
 
-// One edge of a vertex: where it is wanted and has a point, the point joins the sum, and the edge's place takes the vertex's number.
+// One edge of a vertex: where it has a point, the point joins the sum, and the edge's place takes the vertex's number.
 fn draw_edge(
     frame: Frame,
     n: Sides,
@@ -102,26 +102,20 @@ fn draw_edge(
     table: &mut [u32],
     s: usize,
     e: usize,
-    wanted: bool,
     id: u32,
     sum: Sum,
 ) -> Sum
     requires { ⌜ Drawable n (now samples) (now table) s × (e < 14) × (sum .count < 14) ⌝ }
-    ensures { λ r. ⌜ r ≡ joinEdge frame n (now (samples .entry)) s e wanted sum ⌝ }
-    ensures { λ _. ⌜ now (table .exit) ≡ claimEdge frame n (now (samples .entry)) s e wanted id (now (table .entry)) ⌝ }
+    ensures { λ r. ⌜ EdgesDrawn frame n (now (samples .entry)) s (e ∷ []) id (now (table .entry)) (now (table .exit)) sum r ⌝ }
 {
-    if wanted {
-        let place = place_of(frame, n, samples, s, e);
-        match place {
-            EdgePoint::Missing => sum,
-            EdgePoint::At(p) => {
-                let k = edge_place(n, s, e);
-                table[k] = id;
-                points::with_point(sum, p)
-            }
+    let place = place_of(frame, n, samples, s, e);
+    match place {
+        EdgePoint::Missing => sum,
+        EdgePoint::At(p) => {
+            let k = edge_place(n, s, e);
+            table[k] = id;
+            points::with_point(sum, p)
         }
-    } else {
-        sum
     }
 }
 
@@ -139,10 +133,11 @@ pub fn draw_cluster(
     ensures { λ r. ⌜ ClusterDrawn frame n (now (samples .entry)) s mask id (now (table .entry)) (now (table .exit)) r ⌝ }
 {
     let mut sum = points::no_points();
-    let mut rest = mask;
-    for e in 0..tables::EDGES {
-        sum = draw_edge(frame, n, samples, table, s, e, rest % 2 == 1, id, sum);
-        rest = rest / 2;
+    let mut rest = mask & tables::ALL14_MASK;
+    while rest != 0 {
+        let e = u16::trailing_zeros(rest) as usize;
+        rest ^= 1u16 << e;
+        sum = draw_edge(frame, n, samples, table, s, e, id, sum);
     }
     sum
 }
@@ -183,7 +178,7 @@ pub fn put_vertex(
     put_row(book, 4 * i, s as u32, held, round);
 }
 
-// One edge as a vertex of its own, where it is wanted and has a point: the next number.
+// One edge as a vertex of its own, where it has a point: the next number.
 fn draw_single(
     frame: Frame,
     n: Sides,
@@ -193,16 +188,15 @@ fn draw_single(
     book: &mut [u32],
     s: usize,
     e: usize,
-    wanted: bool,
     next: usize,
     round: u32,
 ) -> usize
     requires { ⌜ Drawable n (now samples) (now table) s × (e < 14) ⌝ }
-    requires { ⌜ Space (now positions) (now book) (next + length (single n (now samples) round s e wanted)) ⌝ }
-    ensures { λ r. ⌜ Appended frame n (now (samples .entry)) (single n (now (samples .entry)) round s e wanted) next (now (table .entry)) (now (positions .entry)) (now (book .entry)) r (now (table .exit)) (now (positions .exit)) (now (book .exit)) ⌝ }
+    requires { ⌜ Space (now positions) (now book) (next + length (singlesIn n (now samples) round s (e ∷ []))) ⌝ }
+    ensures { λ r. ⌜ Appended frame n (now (samples .entry)) (singlesIn n (now (samples .entry)) round s (e ∷ [])) next (now (table .entry)) (now (positions .entry)) (now (book .entry)) r (now (table .exit)) (now (positions .exit)) (now (book .exit)) ⌝ }
 {
     let none = points::no_points();
-    let sum = draw_edge(frame, n, samples, table, s, e, wanted, next as u32, none);
+    let sum = draw_edge(frame, n, samples, table, s, e, next as u32, none);
     if sum.count == 0 {
         return next;
     }
@@ -229,22 +223,11 @@ pub fn draw_singles(
     ensures { λ r. ⌜ Appended frame n (now (samples .entry)) (singlesOf n (now (samples .entry)) round s mask) next (now (table .entry)) (now (positions .entry)) (now (book .entry)) r (now (table .exit)) (now (positions .exit)) (now (book .exit)) ⌝ }
 {
     let mut at = next;
-    let mut rest = mask;
-    for e in 0..tables::EDGES {
-        at = draw_single(
-            frame,
-            n,
-            samples,
-            table,
-            positions,
-            book,
-            s,
-            e,
-            rest % 2 == 1,
-            at,
-            round,
-        );
-        rest = rest / 2;
+    let mut left = mask & tables::ALL14_MASK;
+    while left != 0 {
+        let e = u16::trailing_zeros(left) as usize;
+        left ^= 1u16 << e;
+        at = draw_single(frame, n, samples, table, positions, book, s, e, at, round);
     }
     at
 }

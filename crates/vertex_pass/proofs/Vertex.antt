@@ -15,7 +15,7 @@ use Rattle.lattice.specs.declared.Sides.{Sides}
 use Rattle.points.specs.declared.Frame.{Frame}
 use Rattle.points.specs.declared.Point.{Point}
 use Rattle.points.specs.declared.Sum.{Sum}
-use Rattle.points.specs.Means.{meanOf, meanSum}
+use Rattle.points.specs.Means.{meanOf, meanSum, sumOf}
 use Rattle.points.proofs.Means.{mean-sum, sum-count}
 use Rattle.march.specs.March.{none}
 use Rattle.stages.specs.Boxes.{owned}
@@ -24,10 +24,8 @@ use Rattle.stages.specs.Meshes.{bookOf, positionsOf}
 use Rattle.stages.specs.Samples.{edgesOf, pointsOf, positionAt}
 use Rattle.stages.specs.Inner.Steps.{number, paint, paintFrom}
 use Rattle.stages.proofs.Table.{paint-length}
-use Rattle.site_vertices.specs.Inner.Drawing.{joinTo, claimTo}
 use Rattle.stages.specs.Splits.{placeBy, splitBy}
 use Rattle.site_vertices.specs.Inner.Appending.{Appended, Space, pointedOf, singlesOf}
-use Rattle.site_vertices.proofs.Clusters.{cluster-points, cluster-painted}
 use Rattle.site_vertices.proofs.Points.{points-kept, points-long}
 use Rattle.site_vertices.proofs.Appending.{appended-same, paint-singles, singles-are}
 use Rattle.vertex_pass.specs.declared.Pass.{Pass}
@@ -83,13 +81,13 @@ module _ (f : Frame) (n : Sides) (S : List Float) (s m : ℕ) where
   candidate-one [] h = absurd (h refl)
   candidate-one (e ∷ l) h = refl
 
-  pub held-count : (q : Sum) → q ≡ joinTo f n S s m 14 → q .count ≡ length (pointedOf n S s (edgesOf m))
+  pub held-count : (q : Sum) → q ≡ sumOf (pointsOf f n S s (edgesOf m)) → q .count ≡ length (pointedOf n S s (edgesOf m))
   held-count q e =
-      ap (λ (y : Sum). y .count) (e ∙ cluster-points f n S s m) ∙ sum-count (pointsOf f n S s (edgesOf m)) ∙ points-long f n S s (edgesOf m)
+      ap (λ (y : Sum). y .count) e ∙ sum-count (pointsOf f n S s (edgesOf m)) ∙ points-long f n S s (edgesOf m)
 
-  mean-is : (q : Sum) → q ≡ joinTo f n S s m 14 → meanSum q ≡ meanOf (pointsOf f n S s (pointedOf n S s (edgesOf m)))
+  mean-is : (q : Sum) → q ≡ sumOf (pointsOf f n S s (edgesOf m)) → meanSum q ≡ meanOf (pointsOf f n S s (pointedOf n S s (edgesOf m)))
   mean-is q e =
-      ap meanSum (e ∙ cluster-points f n S s m) ∙ mean-sum (pointsOf f n S s (edgesOf m)) ∙ ap meanOf (sym (points-kept f n S s (edgesOf m)))
+      ap meanSum e ∙ mean-sum (pointsOf f n S s (edgesOf m)) ∙ ap meanOf (sym (points-kept f n S s (edgesOf m)))
 
   one-place : (q : ℕ → Bool) (i : ℕ) (c : Bool) → (several x && q i) ≡ c → placeBy q i (x ∷ []) ≡ cond c (apart 0 x) (x ∷ [])
   unfolding placeBy
@@ -112,11 +110,11 @@ module _ (f : Frame) (n : Sides) (S : List Float) (s m : ℕ) where
   unfolding apart held fresh x es
   apart-is = singles-are n S 0 s m
 
-  module _ (q : ℕ → Bool) (a : Pass) (t t₁ : List ℕ) (p : List Float) (k : List ℕ) (w : Sum) (ew : w ≡ joinTo f n S s m 14)
-      (et : t₁ ≡ claimTo f n S s m (a .next) 14 t) where
+  module _ (q : ℕ → Bool) (a : Pass) (t t₁ : List ℕ) (p : List Float) (k : List ℕ) (w : Sum) (ew : w ≡ sumOf (pointsOf f n S s (edgesOf m)))
+      (et : t₁ ≡ paint (a .next) (map (owned n s) (pointedOf n S s (edgesOf m))) t) where
     painted : t₁ ≡ paint (a .next) (map (owned n s) es) t
-    unfolding es pointedOf
-    painted = et ∙ cluster-painted f n S s m (a .next) t
+    unfolding es
+    painted = et
 
     -- WITHOUT A POINT NO VERTEX
     pub vertex-none : w .count ≡ 0 → Passed f n S q (candidateOf n S s m) a t p k a t₁ p k

@@ -1,55 +1,74 @@
 -- `site_vertices::draw_cluster` meets its contract. Assumes nothing.
 use borrow.Author.Needs.{needs}
 use native.Mathlib.Omega.{arith}
-use mathlib.Core.Path.{refl}
-use Prim.Native.Nat.{_%_}
-use lib.Dec.{eqb}
-use Rattle.laws.proofs.Ranges.{fold-done}
-use Rattle.site_vertices.specs.Inner.Drawing.{joinTo, claimTo}
-use Prim.Native.Nat.{_-_}
-use Rattle.site_vertices.proofs.Drawing.{Drawn, drawn-start, drawn-turn}
+use mathlib.Core.Path.{_≡_}
+use Prim.Native.Nat.{_*_, _^_, _<_, _%_}
+use lib.Bits.{bitXor}
+use lib.Count.{trailingZeros, onesIn}
+use Rattle.laws.proofs.Visits.{low-here, low-bit, off-less}
+use Rattle.site_vertices.proofs.Drawing.{Drawing, drawing-start, drawing-turn, drawing-end}
 use Rattle.site_vertices.proofs.draw_cluster.Statement.{statement}
 use Rattle.site_vertices.proofs.draw_cluster.Tie as tie
 
 abbrev Inv-loop : tie.InvT-loop
-Inv-loop frame n samples table₀ s mask id sum₀ rest₀ e₀ table sum rest e = Drawn frame n samples s mask id table₀ e table sum rest
+Inv-loop frame n samples table₀ s mask id sum₀ rest₀ table sum rest = Drawing frame n samples s mask id table₀ table sum rest
 
 abbrev μ-loop : tie.MeasureT-loop
-μ-loop frame n samples table₀ s mask id sum₀ rest₀ e₀ table sum rest e = 14 - e
+μ-loop frame n samples table₀ s mask id sum₀ rest₀ table sum rest = onesIn 14 rest
 
 no-points-requires : tie.Need-no-points-requires Inv-loop μ-loop
 no-points-requires c κs = tt
 
 loop-holds : tie.Need-loop-holds Inv-loop μ-loop
-loop-holds c = let a = c .before .before .before .args in drawn-start (a .frame) (a .n) (a .samples .now) (a .s) (a .mask) (a .id) (a .table .now) (c .no-points .result) (c .no-points .ensures)
+loop-holds c = let a = c .before .before .before .args in drawing-start (a .frame) (a .n) (a .samples .now) (a .s) (a .mask) (a .id) (a .table .now) (c .no-points .result) (c .no-points .ensures)
+
+module _ (c : tie.In-loop Inv-loop μ-loop) where
+  some : 0 < c .before .loop .rest
+  some = omega arith
+
+  edge : trailingZeros 16 (c .before .loop .rest) < 14
+  edge = low-here 16 14 (c .before .loop .rest) (omega arith) some (c .before .loop .inv .visits .short)
+
+  bit : 1 * 2 ^ trailingZeros 16 (c .before .loop .rest) % 65536 ≡ 2 ^ trailingZeros 16 (c .before .loop .rest)
+  bit = low-bit 16 14 (c .before .loop .rest) (omega arith) some (c .before .loop .inv .visits .short)
+
+  less : onesIn 14 (bitXor (c .before .loop .rest) (2 ^ trailingZeros 16 (c .before .loop .rest))) < onesIn 14 (c .before .loop .rest)
+  less = off-less 16 14 (c .before .loop .rest) (omega arith) some (c .before .loop .inv .visits .short)
+
+cast-e : tie.Need-cast-e Inv-loop μ-loop
+cast-e c = omega (arith, edge c)
+
+cast-rest : tie.Need-cast-rest Inv-loop μ-loop
+cast-rest c = omega (arith, edge c)
+
+shl-rest : tie.Need-shl-rest Inv-loop μ-loop
+shl-rest c = omega (arith, edge c)
 
 draw-edge-requires : tie.Need-draw-edge-requires Inv-loop μ-loop
 draw-edge-requires c κs =
     let p = c .before .before .before .before .before .before .pre in
     let d = c .before .before .loop .inv in
-    (record { sampled = p .sampled; low = p .low; table = omega (arith, p .table, d .long) }, c .before .loop-test .taken, omega (arith, d .few, c .before .loop-test .taken))
-
-add-e : tie.Need-add-e Inv-loop μ-loop
-add-e c = omega arith
+    (record { sampled = p .sampled; low = p .low; table = omega (arith, p .table, d .long) }, edge (c .before), omega (arith, d .few, less (c .before)))
 
 loop-less : tie.Need-loop-less Inv-loop μ-loop
-loop-less c = omega arith
+loop-less c = let i = c .before .before .before .before in rw (bit i) (less i)
 
 loop-again : tie.Need-loop-again Inv-loop μ-loop
 loop-again c =
-    let a = c .before .before .before .before .before .before .before .before .before .args in
-    let at = c .before .before .before .before .before .loop in
+    let i = c .before .before .before .before in
+    let a = i .before .before .before .before .before .args in
+    let at = i .before .loop in
     let call = c .before .before .draw-edge in
-    drawn-turn (a .frame) (a .n) (a .samples .now) (a .s) (a .mask) (a .id) (a .table .now) (at .e) (at .table) _ (at .sum) (call .result) (at .rest) (eqb (at .rest % 2) 1) (at .inv) (c .before .before .before .before .loop-test .taken) refl (call .ensures .0) (call .ensures .1) (call .kept .1 .1 .1 .0)
+    rw (bit i) (drawing-turn (a .frame) (a .n) (a .samples .now) (a .s) (a .mask) (a .id) (a .table .now) (at .table) (at .sum) (at .rest) (at .inv) (some i) _ (call .result) (call .ensures) (call .kept .1 .1 .1 .0))
 
 same-length : tie.Need-same-length Inv-loop μ-loop
 same-length c = search needs
 
 returns : tie.Need-returns Inv-loop μ-loop
-unfolding joinTo claimTo
 returns c =
+    let a = c .before .before .before .before .before .args in
     let at = c .before .loop in
-    record { sum = fold-done _ (at .e) 14 _ (at .sum) (at .inv .sum) (at .inv .low) (c .loop-test .left); table = fold-done _ (at .e) 14 _ (at .table) (at .inv .table) (at .inv .low) (c .loop-test .left) }
+    drawing-end (a .frame) (a .n) (a .samples .now) (a .s) (a .mask) (a .id) (a .table .now) (at .table) (at .sum) (at .rest) (at .inv) (c .loop-test .left)
 
 pub draw-cluster-spec : {M : Type 1} → statement M
 draw-cluster-spec =
@@ -59,8 +78,10 @@ draw-cluster-spec =
     μ-loop
     no-points-requires
     loop-holds
+    cast-e
+    cast-rest
+    shl-rest
     draw-edge-requires
-    add-e
     loop-less
     loop-again
     same-length

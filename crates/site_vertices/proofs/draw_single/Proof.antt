@@ -25,7 +25,7 @@ returns c =
     let s = c .before .before .before .before .before .before .before .before .before .before .before in
     let a = s .args in
     let d = c .before .before .before .before .draw-edge in
-    single-none (a .frame) (a .n) (a .samples .now) (a .s) (a .e) (a .round) (a .next) (a .table .now) (a .positions .now) (a .book .now) (a .wanted) (c .before .before .before .before .before .before .no-points .result) (d .result) _ (c .before .before .before .before .before .before .no-points .ensures) (d .ensures .0) (d .ensures .1) (c .if1 .taken)
+    single-none (a .frame) (a .n) (a .samples .now) (a .s) (a .e) (a .round) (a .next) (a .table .now) _ (a .positions .now) (a .book .now) (c .before .before .before .before .before .before .no-points .result) (d .result) (c .before .before .before .before .before .before .no-points .ensures) (d .ensures) (c .if1 .taken)
 
 mean-requires : tie.Need-mean-requires
 mean-requires c κs = search needs
@@ -35,7 +35,7 @@ put-vertex-requires c κs =
     let s = c .before .before .before .before .before .before .before .before .before .before .before .before .before .before in
     let a = s .args in
     let d = c .before .before .before .before .before .before .before .draw-edge in
-    let l = single-long (a .frame) (a .n) (a .samples .now) (a .s) (a .e) (a .round) (a .next) (a .table .now) (a .positions .now) (a .book .now) (a .wanted) (c .before .before .before .before .before .before .before .before .before .no-points .result) (d .result) _ (c .before .before .before .before .before .before .before .before .before .no-points .ensures) (d .ensures .0) (d .ensures .1) (c .before .before .before .if1 .left) in
+    let l = single-long (a .frame) (a .n) (a .samples .now) (a .s) (a .e) (a .round) (a .next) (a .table .now) _ (a .positions .now) (a .book .now) (c .before .before .before .before .before .before .before .before .before .no-points .result) (d .result) (c .before .before .before .before .before .before .before .before .before .no-points .ensures) (d .ensures) (c .before .before .before .if1 .left) in
     (record { positions = omega (arith, s .pre .1 .positions, l); book = omega (arith, s .pre .1 .book, l); few = omega (arith, s .pre .1 .few, l) }, omega (arith, s .pre .0 .0 .low, sites-most (a .n) (s .pre .0 .0 .sampled .fit)))
 
 add-result : tie.Need-add-result
@@ -57,7 +57,7 @@ returns-2 c =
     let s = c .before .before .before .before .before .before .before .before .before .before .before .before .before .before .before .before .before .before .before in
     let a = s .args in
     let d = c .before .before .before .before .before .before .before .before .before .before .before .before .draw-edge in
-    single-some (a .frame) (a .n) (a .samples .now) (a .s) (a .e) (a .round) (a .next) (a .table .now) (a .positions .now) (a .book .now) (a .wanted) (c .before .before .before .before .before .before .before .before .before .before .before .before .before .before .no-points .result) (d .result) _ (c .before .before .before .before .before .before .before .before .before .before .before .before .before .before .no-points .ensures) (d .ensures .0) (d .ensures .1) (c .before .before .before .before .before .before .before .mean .result) _ _ (c .before .before .before .before .before .before .before .before .if1 .left) (c .before .before .before .before .before .before .before .mean .ensures) (c .before .before .before .before .put-vertex .ensures .positions) (c .before .before .before .before .put-vertex .ensures .book)
+    single-some (a .frame) (a .n) (a .samples .now) (a .s) (a .e) (a .round) (a .next) (a .table .now) _ (a .positions .now) (a .book .now) (c .before .before .before .before .before .before .before .before .before .before .before .before .before .before .no-points .result) (d .result) (c .before .before .before .before .before .before .before .before .before .before .before .before .before .before .no-points .ensures) (d .ensures) (c .before .before .before .before .before .before .before .mean .result) _ _ (c .before .before .before .before .before .before .before .before .if1 .left) (c .before .before .before .before .before .before .before .mean .ensures) (c .before .before .before .before .put-vertex .ensures .positions) (c .before .before .before .before .put-vertex .ensures .book)
 
 pub draw-single-spec : {M : Type 1} → statement M
 draw-single-spec =
