@@ -108,7 +108,7 @@ pub fn run(bytes: &[u8], unbounded: bool, with_topology: bool) -> (u32, Option<(
 }
 
 /// What docs/SCOPE.md, S8 and S15 say of every answer; stops the program where it does not hold.
-fn check(input: &Input, rounds: usize, answer: &Answer) {
+pub fn check(input: &Input, rounds: usize, answer: &Answer) {
     let cells: usize = input.sides.iter().map(|n| n - 1).product();
     assert!(answer.positions.len() / 3 <= 3 * answer.crossed / 2, "more than X vertices");
     assert!(answer.triangles.len() / 3 <= 12 * cells, "more than twelve triangles a cell");

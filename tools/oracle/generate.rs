@@ -37,7 +37,7 @@ impl Rng {
 /// The threshold (docs/SCOPE.md, S3.1), negated: outside. The next f64 below it is inside.
 pub const EDGE: f64 = -1.0e-9;
 
-fn after(x: f64, steps: i64) -> f64 {
+pub fn after(x: f64, steps: i64) -> f64 {
     f64::from_bits((x.to_bits() as i64 + steps) as u64)
 }
 
@@ -52,7 +52,7 @@ pub fn end_value(state: &mut u64) -> Option<f64> {
 }
 
 /// Values at which something changes.
-fn special(rng: &mut Rng) -> f64 {
+pub fn special(rng: &mut Rng) -> f64 {
     match rng.below(24) {
         0 => EDGE,
         1 => after(EDGE, 1),
@@ -124,12 +124,12 @@ fn common_size(rng: &mut Rng) -> [usize; 3] {
     }
 }
 
-fn positions(sides: [usize; 3]) -> Vec<[f64; 3]> {
+pub fn positions(sides: [usize; 3]) -> Vec<[f64; 3]> {
     let lattice = SampleLattice { origin: [0.0; 3], step: [1.0; 3], sides };
     lattice.keys().into_iter().map(|k| lattice.ijk_to_world(k)).collect()
 }
 
-fn distance(p: [f64; 3], q: [f64; 3]) -> f64 {
+pub fn distance(p: [f64; 3], q: [f64; 3]) -> f64 {
     ((p[0] - q[0]).powi(2) + (p[1] - q[1]).powi(2) + (p[2] - q[2]).powi(2)).sqrt()
 }
 
@@ -146,7 +146,7 @@ fn turned(rng: &mut Rng) -> [f64; 3] {
 }
 
 /// Samples of a box. Kinds 0 to 5 are smooth, 6 to 12 noise.
-fn field(rng: &mut Rng, sides: [usize; 3]) -> Vec<f64> {
+pub fn field(rng: &mut Rng, sides: [usize; 3]) -> Vec<f64> {
     let sites: usize = sides.iter().product();
     let at = positions(sides);
     let dot = |n: [f64; 3], p: [f64; 3]| n[0] * p[0] + n[1] * p[1] + n[2] * p[2];
@@ -218,7 +218,7 @@ const ORIGIN_LIMITS: [f64; 2] = [-1e9, 1e9];
 const STEP_LIMITS: [f64; 2] = [0.001, 1e6];
 
 /// An origin and a step that are accepted.
-fn frame(rng: &mut Rng) -> ([f64; 3], [f64; 3]) {
+pub fn frame(rng: &mut Rng) -> ([f64; 3], [f64; 3]) {
     match rng.below(4) {
         0 | 1 => ([0.0; 3], [1.0; 3]),
         2 => ([0; 3].map(|_| rng.float(-1e3, 1e3)), [0; 3].map(|_| rng.float(0.001, 50.0))),

@@ -1,12 +1,12 @@
-// Reads a count file from standard input, or from the file that its one argument names, and prints the answer and then all that the build leaves behind, in the format of tools/oracle/FORMAT.md,
-// but for the lines of splits and owners.
+// Reads a count file from standard input, or from the file that its one argument names, and prints the answer and then all that the build leaves behind, in the format of tools/oracle/FORMAT.md.
+// A build keeps no list of the clusters that it split, nor of the sites that it rolled back: both are read off the edge table and the vertex book.
 use build::Answer;
 use count_file::Head;
 use lattice::Sides;
 use libc::STDOUT_FILENO;
 ghost use Prim.Native.Nat.{_<_, _≤_};
 ghost use lib.ListN.{length};
-ghost use Rattle.lattice.specs.Sites.{sites};
+ghost use Rattle.lattice.specs.Sites.{SidesFit, sites};
 ghost use Rattle.marks.specs.Inner.Loops.{Sampled};
 ghost use Rattle.file_build.specs.Asked.{headSides};
 
@@ -105,6 +105,148 @@ fn show_tets(n: Sides, samples: &[f64])
     }
 }
 
+// ---- splits
+
+// Where the walk over the candidates stands: the number of the next one, and the next vertex of round 0.
+struct Walk {
+    candidate: usize,
+    vertex: usize,
+}
+
+// 1 where the edge is wanted and the edge table has a vertex for it, else 0. The place is within the table that a build leaves; the test stands in for that proof.
+fn holds(n: Sides, table: &[u32], s: usize, e: usize, wanted: bool) -> usize
+    requires { ⌜ SidesFit n × (s < sites n) × (e < 14) ⌝ }
+    ensures { λ r. ⌜ r ≤ 1 ⌝ }
+{
+    if !wanted {
+        return 0;
+    }
+    let k = site_vertices::edge_place(n, s, e);
+    if k >= table.len() {
+        return 0;
+    }
+    if table[k] == march::NONE {
+        return 0;
+    }
+    1
+}
+
+// How many edges of a cluster have a vertex: those that have a point.
+fn held(n: Sides, table: &[u32], s: usize, mask: u16) -> usize
+    requires { ⌜ SidesFit n × (s < sites n) ⌝ }
+    ensures { λ r. ⌜ r ≤ 14 ⌝ }
+{
+    let mut p = 0usize;
+    let mut rest = mask;
+    for e in 0..tables::EDGES {
+        p += holds(n, table, s, e, rest % 2 == 1);
+        rest = rest / 2;
+    }
+    p
+}
+
+// A cluster with p points is a candidate, unless p is 0. It has one vertex that was made with p edges; or, where it was split, p vertices with one edge each, and then
+// its number is printed. A build's book has all of them; the test of the book's end stands in for that proof.
+fn show_candidate(book: &[u32], w: Walk, p: usize) -> Walk
+    requires { ⌜ (w .candidate ≤ w .vertex) × (p ≤ 14) ⌝ }
+    ensures { λ r. ⌜ r .candidate ≤ r .vertex ⌝ }
+{
+    let v = w.vertex;
+    if p == 0 {
+        return w;
+    }
+    if v >= book.len() / 4 {
+        return w;
+    }
+    if wide(book[4 * v + 2]) == p as u64 {
+        return Walk {
+            candidate: w.candidate + 1,
+            vertex: v + 1,
+        };
+    }
+    word(w.candidate as u64);
+    Walk {
+        candidate: w.candidate + 1,
+        vertex: v + p,
+    }
+}
+
+fn show_site_splits(
+    n: Sides,
+    samples: &[f64],
+    table: &[u32],
+    book: &[u32],
+    s: usize,
+    m: u16,
+    cluster: bool,
+    from: Walk,
+) -> Walk
+    requires { ⌜ Sampled n (now samples) × (s < sites n) × (from .candidate ≤ from .vertex) ⌝ }
+    ensures { λ r. ⌜ r .candidate ≤ r .vertex ⌝ }
+{
+    let ends = site_vertices::ends_of(n, samples, s);
+    let r = topology::test_topology(m, cluster, ends, samples::INSIDE);
+    let clusters = r.clusters;
+    let masks = clusters.masks;
+    let count = least(clusters.count, 14);
+    let mut w = from;
+    for i in 0..count {
+        w = show_candidate(book, w, held(n, table, s, masks[i]));
+    }
+    w
+}
+
+fn show_splits(
+    n: Sides,
+    samples: &[f64],
+    masks: &[u16],
+    table: &[u32],
+    book: &[u32],
+    cluster: bool,
+    split: usize,
+)
+    requires { ⌜ Sampled n (now samples) × (length (now masks) ≤ sites n) ⌝ }
+{
+    io::write_all(STDOUT_FILENO, b"split");
+    word(split as u64);
+    let mut w = Walk {
+        candidate: 0,
+        vertex: 0,
+    };
+    for s in 0..masks.len() {
+        w = show_site_splits(n, samples, table, book, s, masks[s], cluster, w);
+    }
+    end();
+}
+
+// ---- rollback owners
+
+// A row of the book: its site is printed if the vertex was made in the round, and the site is not the last that was printed.
+fn show_owner(round: usize, site: u32, made: u32, last: u32) -> u32 {
+    if wide(made) != round as u64 || site == last {
+        return last;
+    }
+    word(wide(site));
+    site
+}
+
+// The sites rolled back in a round are those with vertices made in it, whose rows stand in site order.
+fn show_owners(book: &[u32], round: usize) {
+    io::write_all(STDOUT_FILENO, b"owners");
+    word(round as u64);
+    let mut last = march::NONE;
+    for v in 0..book.len() / 4 {
+        last = show_owner(round, book[4 * v], book[4 * v + 3], last);
+    }
+    end();
+}
+
+fn show_rounds(book: &[u32], rounds: usize) {
+    for r in 0..rounds {
+        show_owners(book, r + 1);
+    }
+}
+
 // ---- edge table, positions, vertex book, triangles
 
 fn show_edge(i: usize, v: u32) {
@@ -192,6 +334,23 @@ fn show_sites(n: Sides, samples: &[f64], masks: &[u16], cluster: bool)
     show_tets(n, samples);
 }
 
+fn show_changes(
+    n: Sides,
+    samples: &[f64],
+    a: Answer,
+    masks: &[u16],
+    table: &[u32],
+    book: &[u32],
+    cluster: bool,
+)
+    requires { ⌜ Sampled n (now samples) × (length (now samples) ≤ sites n) ⌝ }
+{
+    let k = least(samples.len(), masks.len());
+    let b = least(4 * least(a.vertices, 2268), book.len());
+    show_splits(n, samples, &masks[..k], table, &book[..b], cluster, a.split);
+    show_rounds(&book[..b], a.rounds);
+}
+
 // All that a build has left, of a file of k sites.
 fn dump(
     head: Head,
@@ -208,7 +367,9 @@ fn dump(
     let n = file_build::sides_of(head);
     let e = least(7 * least(samples.len(), count_file::SITES), table.len());
     let sizes = head.sizes;
-    show_sites(n, samples, masks, sizes[3] == 1);
+    let cluster = sizes[3] == 1;
+    show_sites(n, samples, masks, cluster);
+    show_changes(n, samples, a, masks, &table[..e], book, cluster);
     show_lists(a, &table[..e], positions, book, tris);
 }
 

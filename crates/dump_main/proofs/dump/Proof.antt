@@ -18,16 +18,24 @@ mul-least c = search needs
 least-requires-2 : tie.Need-least-requires-2
 least-requires-2 c κs = search needs
 
-array-read-show-sites : tie.Need-array-read-show-sites
-array-read-show-sites c = search needs
+array-read-cluster : tie.Need-array-read-cluster
+array-read-cluster c = search needs
 
 show-sites-requires : tie.Need-show-sites-requires
 show-sites-requires c κs =
     let n = c .before .before .before in
     rw (n .sides-of .ensures) (n .before .before .before .before .before .before .before .pre)
 
+slice-aggregate-show-changes : tie.Need-slice-aggregate-show-changes
+slice-aggregate-show-changes c = sym (length-take-le _ _ (omega (arith, c .before .before .before .least2 .ensures)))
+
+show-changes-requires : tie.Need-show-changes-requires
+show-changes-requires c κs =
+    let n = c .before .before .before .before .before in
+    rw (n .sides-of .ensures) (n .before .before .before .before .before .before .before .pre)
+
 slice-aggregate-show-lists : tie.Need-slice-aggregate-show-lists
-slice-aggregate-show-lists c = sym (length-take-le _ _ (omega (arith, c .before .before .before .least2 .ensures)))
+slice-aggregate-show-lists c = sym (length-take-le _ _ (omega (arith, c .before .before .before .before .before .least2 .ensures)))
 
 show-lists-requires : tie.Need-show-lists-requires
 show-lists-requires c κs = search needs
@@ -43,8 +51,10 @@ dump-spec =
     least-requires
     mul-least
     least-requires-2
-    array-read-show-sites
+    array-read-cluster
     show-sites-requires
+    slice-aggregate-show-changes
+    show-changes-requires
     slice-aggregate-show-lists
     show-lists-requires
     returns)
