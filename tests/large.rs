@@ -606,6 +606,10 @@ fn run(seed: u64, from: u64, count: u64, seconds: f64) -> bool {
             eprintln!("{} boxes, {} equal, {:.0} s", tally.boxes, tally.equal, begun.elapsed().as_secs_f64());
         }
     }
+    if tally.boxes == 0 {
+        println!("no box was made");
+        return false;
+    }
     tally.print(seed, from, sizes.len(), begun.elapsed().as_secs_f64());
     if let Some((_, number, what)) = &tally.smallest {
         println!("the smallest that was not: {what}\nit is made again by: tests/run large --from {number} 1 {seed}");
