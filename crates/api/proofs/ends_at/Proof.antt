@@ -38,8 +38,11 @@ loop-holds : tie.Need-loop-holds Inv-loop μ-loop
 unfolding each
 loop-holds c = (omega arith, refl)
 
-end-at-requires : tie.Need-end-at-requires Inv-loop μ-loop
-end-at-requires c κs = search needs
+mul-t6 : tie.Need-mul-t6 Inv-loop μ-loop
+mul-t6 c = search needs
+
+element-copy-out-t9 : tie.Need-element-copy-out-t9 Inv-loop μ-loop
+element-copy-out-t9 c = search needs
 
 mul-known : tie.Need-mul-known Inv-loop μ-loop
 mul-known c = search needs
@@ -54,7 +57,7 @@ loop-less : tie.Need-loop-less Inv-loop μ-loop
 loop-less c = search needs
 
 loop-again : tie.Need-loop-again Inv-loop μ-loop
-loop-again c = (omega arith, turn (c .before .before .before .args .ends .now) _ _ _ (omega arith) (c .before .before .loop .inv .1) (c .end-at .ensures))
+loop-again c = (omega arith, turn (c .before .before .before .args .ends .now) _ _ _ (omega arith) (c .before .before .loop .inv .1) refl)
 
 returns : tie.Need-returns Inv-loop μ-loop
 unfolding endsAt
@@ -64,4 +67,4 @@ returns c =
 
 pub ends-at-spec : {M : Type 1} → statement M
 ends-at-spec =
-    tie.close (tie.spec Inv-loop μ-loop loop-holds end-at-requires mul-known array-set-from-known add-e loop-less loop-again returns)
+    tie.close (tie.spec Inv-loop μ-loop loop-holds mul-t6 element-copy-out-t9 mul-known array-set-from-known add-e loop-less loop-again returns)
