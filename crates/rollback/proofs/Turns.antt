@@ -2,7 +2,7 @@
 use mathlib.Core.Path.{_≡_, refl, sym, ap, _∙_}
 use mathlib.Core.Bool.{Bool, true, false, _&&_, cond}
 use mathlib.Core.List.{List, [], _∷_, _++_, map}
-use Prim.Native.Nat.{ℕ, suc, _+_, _*_, _≤_, _<_}
+use Prim.Native.Nat.{ℕ, _+_, _*_, _≤_, _<_}
 use native.Mathlib.Omega.{arith}
 use lib.Dec.{eqb}
 use lib.ListN.{length, getD, set, length-append, length-set}
@@ -24,7 +24,7 @@ use Rattle.stages.specs.Vertices.{Vertex, apart, fresh, held, keys, nobody}
 use Rattle.stages.specs.Meshes.{bookOf, numbers, positionsOf, tableOf}
 use Rattle.stages.specs.Rounds.{retired}
 use Rattle.stages.specs.Samples.{boxOf, edgesOf, pointBy, positionAt}
-use Rattle.stages.specs.Inner.Steps.{number, paint, paintFrom}
+use Rattle.stages.specs.Inner.Steps.{number, paintFrom}
 use Rattle.stages.specs.Inner.Clustered.{Proper}
 use Rattle.stages.proofs.Lookup.{times}
 use Rattle.stages.proofs.Table.{table-roll}
@@ -33,7 +33,7 @@ use Rattle.stages.proofs.SampleClusters.{markAt}
 use Rattle.stages.proofs.SampleMarks.{sample-clustered}
 use Rattle.stages.proofs.Book.{book-append, book-length, book-retire, positions-append, positions-retire}
 use Rattle.site_vertices.specs.Inner.Appending.{pointedOf, singlesOf}
-use Rattle.site_vertices.proofs.Appending.{positions-three, singles-are}
+use Rattle.site_vertices.proofs.Appending.{paint-singles, positions-three, singles-are}
 use Rattle.rollback.specs.Inner.Rolling.{Holding}
 use Rattle.rollback.specs.Inner.Turning.{Replaced, heldAt, heldMask}
 use Rattle.rollback.proofs.Fronts.{front-more, front-set}
@@ -60,12 +60,6 @@ mask-edges p =
     each-keep (isSet (mask 14 p)) 14 (λ i. i ∷ [])
     ∙ each-same 14 (λ i. keep (isSet (mask 14 p)) (i ∷ [])) (λ i. keep p (i ∷ [])) (λ i h. ap (λ (c : Bool). cond c (i ∷ []) []) (mask-set 14 p i h))
     ∙ sym (each-keep p 14 (λ i. i ∷ []))
-
--- single vertices painted in turn are their places numbered
-paint-number : (n : Sides) (r s c : ℕ) (es t : List ℕ) → paintFrom n c (map (λ e. fresh r s (e ∷ [])) es) t ≡ number c (map (owned n s) es) t
-unfolding paintFrom number paint held fresh
-paint-number n r s c [] t = refl
-paint-number n r s c (e ∷ es) t = paint-number n r s (suc c) es (set t (owned n s e) c)
 
 -- ---- vertex i of the vertices ws
 
@@ -102,7 +96,7 @@ module _ (f : Frame) (n : Sides) (S : List Float) (b : Box) (is-box : b .sides �
   unfolding apart keys
   table-after =
       let x = getD ws i nobody in
-      paint-number n r (x .site) (length ws) (held x) (tableOf b ws)
+      paint-singles n (length ws) r (x .site) (held x) (tableOf b ws)
       ∙ ap (λ (m : Sides). number (length ws) (map (owned m (x .site)) (held x)) (tableOf b ws)) (sym is-box)
       ∙ sym (table-roll b r ws i low once)
 

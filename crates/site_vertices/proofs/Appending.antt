@@ -4,8 +4,9 @@ use mathlib.Core.Bool.{Bool, true, false, cond}
 use mathlib.Core.List.{List, [], _∷_, _++_, map}
 use Prim.Native.Nat.{ℕ, suc, _+_, _*_, _-_, _^_, _≤_, _<_}
 use native.Mathlib.Omega.{arith}
-use lib.Bits.{bitAnd, bitXor}
+use lib.Bits.{bitAnd, bitXor, xor-self}
 use lib.Count.{trailingZeros}
+use lib.Pow.{pow-lt, pow-pos}
 use lib.ListN.{length, set, length-append}
 use lib.Seq.{sets, length-sets}
 use lib.Ieee.{Float}
@@ -14,14 +15,15 @@ use Rattle.laws.specs.Ranges.{each}
 use Rattle.laws.specs.Lists.{keep}
 use Rattle.laws.proofs.Ranges.{each-add}
 use Rattle.laws.proofs.Lists.{map-append}
-use Rattle.laws.proofs.Visits.{visit-start, visit-turn, visit-end, places-low, places-turn}
+use Rattle.laws.proofs.Digits.{low-pow}
+use Rattle.laws.proofs.Visits.{visit-start, visit-turn, visit-end, places-none, places-low, places-turn}
 use Rattle.laws.proofs.Written.{sets-append}
 use Rattle.lattice.specs.declared.Sides.{Sides}
 use Rattle.lattice.specs.Across.{acrossOf}
 use Rattle.points.specs.declared.Frame.{Frame}
 use Rattle.points.specs.declared.Point.{Point}
 use Rattle.points.specs.declared.Sum.{Sum}
-use Rattle.points.specs.Means.{none, gather, sumOf, meanSum}
+use Rattle.points.specs.Means.{sumOf, meanSum}
 use Rattle.points.proofs.Means.{mean-sum, sum-count}
 use Rattle.stages.specs.Boxes.{owned}
 use Rattle.stages.specs.Vertices.{Vertex, fresh, held}
@@ -29,7 +31,7 @@ use Rattle.stages.specs.Meshes.{bookOf, numbers, positionsOf}
 use Rattle.stages.specs.Samples.{edgesOf, pointBy, pointsOf, positionAt}
 use Rattle.stages.specs.Inner.Steps.{number, paint, paintFrom}
 use Rattle.stages.proofs.Book.{book-append, book-length, positions-append, positions-length}
-use Rattle.site_vertices.specs.Inner.Drawing.{EdgesDrawn}
+use Rattle.site_vertices.specs.Inner.Drawing.{ClusterDrawn}
 use Rattle.site_vertices.specs.Inner.Appending.{Appended, Space, pointedOf, singlesIn, singlesOf}
 use Rattle.site_vertices.proofs.Points.{points-long}
 use Rattle.site_vertices.proofs.Drawing.{pointed-append}
@@ -101,12 +103,25 @@ each-longer g k m h =
 
 -- ---- one edge as a vertex of its own
 
-module _ (f : Frame) (n : Sides) (S : List Float) (s e r i : ℕ) (t t′ : List ℕ) (p : List Float) (k : List ℕ) (q₀ q : Sum) (e₀ : q₀ ≡ none)
-    (d : EdgesDrawn f n S s (e ∷ []) i t t′ q₀ q) where
-  -- the sum is that of its point, where it has one
+-- the edges of a mask with one digit
+one-edge : (e : ℕ) → e < 14 → edgesOf (2 ^ e) ≡ e ∷ []
+unfolding edgesOf numbers setPlaces
+one-edge e h =
+    places-turn 16 14 (2 ^ e) (omega arith) (pow-pos e) (pow-lt h)
+    ∙ ap (λ (l : ℕ). l ∷ setPlaces 14 (bitXor (2 ^ e) (2 ^ l))) (low-pow 16 e (omega arith))
+    ∙ ap (λ (x : ℕ). e ∷ setPlaces 14 x) (xor-self (2 ^ e)) ∙ ap (λ (l : List ℕ). e ∷ l) (places-none 14)
+
+module _ (f : Frame) (n : Sides) (S : List Float) (s e r i m : ℕ) (t t′ : List ℕ) (p : List Float) (k : List ℕ) (q : Sum) (low : e < 14) (em : m ≡ 2 ^ e)
+    (d : ClusterDrawn f n S s m i t t′ q) where
+  is-one : edgesOf m ≡ e ∷ []
+  is-one = ap edgesOf em ∙ one-edge e low
+
+  -- the sum is that of its point, where it has one, and the table is painted at its place
   point-sum : q ≡ sumOf (pointsOf f n S s (e ∷ []))
-  unfolding sumOf
-  point-sum = d .sum ∙ ap (λ (x : Sum). gather x (pointsOf f n S s (e ∷ []))) e₀
+  point-sum = d .sum ∙ ap (λ (l : List ℕ). sumOf (pointsOf f n S s l)) is-one
+
+  painted : t′ ≡ paint i (map (owned n s) (pointedOf n S s (e ∷ []))) t
+  painted = d .table ∙ ap (λ (l : List ℕ). paint i (map (owned n s) (pointedOf n S s l)) t) is-one
 
   counted : q .count ≡ length (pointedOf n S s (e ∷ []))
   counted = ap (λ (x : Sum). x .count) point-sum ∙ sum-count (pointsOf f n S s (e ∷ [])) ∙ points-long f n S s (e ∷ [])
@@ -130,7 +145,7 @@ module _ (f : Frame) (n : Sides) (S : List Float) (s e r i : ℕ) (t t′ : List
   -- WITHOUT A POINT NOTHING IS DONE
   pub single-none : q .count ≡ 0 → Appended f n S (singlesIn n S r s (e ∷ [])) i t p k i t′ p k
   unfolding singlesIn paint
-  single-none h = rw (d .table, pointed-none h) (appended-none f n S i t p k)
+  single-none h = rw (painted, pointed-none h) (appended-none f n S i t p k)
 
   -- WITH ONE IT IS A VERTEX
   pub single-some : (z : Point) (p′ : List Float) (k′ : List ℕ) → (q .count ≡ 0 → ⊥) → z ≡ meanSum q → p′ ≡ sets p (3 * i) (z .x ∷ z .y ∷ z .z ∷ [])
@@ -140,7 +155,7 @@ module _ (f : Frame) (n : Sides) (S : List Float) (s e r i : ℕ) (t t′ : List
       let o = pointed-one h in
       rw o (record {
         next = refl;
-        table = d .table ∙ ap (λ (l : List ℕ). paint i (map (owned n s) l) t) o;
+        table = painted ∙ ap (λ (l : List ℕ). paint i (map (owned n s) l) t) o;
         positions = ep ∙ ap (λ (x : Point). sets p (3 * i) (x .x ∷ x .y ∷ x .z ∷ [])) (ez ∙ ap meanSum point-sum ∙ mean-sum (pointsOf f n S s (e ∷ [])));
         book = ek;
       })

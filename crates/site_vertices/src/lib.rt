@@ -195,8 +195,7 @@ fn draw_single(
     requires { ⌜ Space (now positions) (now book) (next + length (singlesIn n (now samples) round s (e ∷ []))) ⌝ }
     ensures { λ r. ⌜ Appended frame n (now (samples .entry)) (singlesIn n (now (samples .entry)) round s (e ∷ [])) next (now (table .entry)) (now (positions .entry)) (now (book .entry)) r (now (table .exit)) (now (positions .exit)) (now (book .exit)) ⌝ }
 {
-    let none = points::no_points();
-    let sum = draw_edge(frame, n, samples, table, s, e, next as u32, none);
+    let sum = draw_cluster(frame, n, samples, table, s, 1u16 << e, next as u32);
     if sum.count == 0 {
         return next;
     }
