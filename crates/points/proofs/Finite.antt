@@ -1,5 +1,5 @@
 -- In an accepted frame each point of a crossed edge is finite, and so is each mean of up to fourteen such points. Assumes nothing.
-use Prim.Native.Nat.{ℕ, suc, _+_, _*_, _^_, _≤_, _<_}
+use Prim.Native.Nat.{ℕ, suc, _+_, _*_, _^_, _≤_}
 use native.Mathlib.Nat.{mul-one, one-mul, le-trans, le-of-eq, mul-le-mul-right}
 use native.Mathlib.Omega.{arith}
 use mathlib.Core.Path.{_≡_, refl, sym, ap, subst, _∙_}

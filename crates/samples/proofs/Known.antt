@@ -1,5 +1,5 @@
 -- Samples that are not finite count as missing: of what is finite or missing already, nothing changes. Assumes nothing.
-use mathlib.Core.Path.{_≡_, refl, sym, ap, _∙_}
+use mathlib.Core.Path.{_≡_, refl}
 use mathlib.Core.Bool.{Bool, true, false, cond}
 use lib.Ieee.{Float}
 use Rattle.samples.specs.declared.Sample.{Sample}

@@ -1,7 +1,7 @@
 -- Every position of every stage of a build is finite, whatever the samples are: a vertex has some edges, and each of them is crossed and has finite ends. Assumes nothing.
-use mathlib.Core.Path.{_≡_, refl, ap, sym, _∙_}
+use mathlib.Core.Path.{_≡_, refl, ap}
 use mathlib.Core.Bool.{Bool, true, false, _&&_, Bool·beq, cond, false≢true}
-use mathlib.Core.List.{List, [], _∷_, _++_, map}
+use mathlib.Core.List.{List, [], _∷_, map}
 use Prim.Native.Nat.{ℕ, suc, _≤_, _<_}
 use native.Mathlib.Omega.{arith}
 use lib.Dec.{ltb}
@@ -10,8 +10,7 @@ use lib.Ieee.{Float}
 use Rattle.laws.specs.Lists.{keep, All}
 use Rattle.laws.proofs.Bools.{and-apart}
 use Rattle.laws.proofs.Ranges.{each-all, each-one-length}
-use Rattle.laws.proofs.Lists.{all-append, keep-le}
-use Rattle.samples.specs.declared.Crossing.{Crossing}
+use Rattle.laws.proofs.Lists.{keep-le}
 use Rattle.samples.specs.declared.Crossing.the-variants.{SameSide, At}
 use Rattle.samples.specs.Sides.{finite, inside, markFraction, crossing, near}
 use Rattle.lattice.specs.declared.Sides.{Sides}
@@ -24,7 +23,6 @@ use Rattle.lattice.proofs.OtherEnds.{across-joined}
 use Rattle.marks.specs.Marks.{sample, beyond, markedBy, marked}
 use Rattle.points.specs.declared.Point.{Point}
 use Rattle.points.specs.declared.Frame.{Frame}
-use Rattle.points.specs.declared.EdgePoint.{EdgePoint}
 use Rattle.points.specs.declared.EdgePoint.the-variants as on
 use Rattle.points.specs.Limits.{frameOk}
 use Rattle.points.specs.Means.{meanOf}
@@ -35,13 +33,13 @@ use Rattle.stages.specs.Boxes.{Box}
 use Rattle.stages.specs.Vertices.{Vertex, fresh, held, apart, filled, siteVertices, candidates}
 use Rattle.stages.specs.Meshes.{numbers, positionsOf}
 use Rattle.stages.specs.Rounds.{isIn, retired}
-use Rattle.stages.specs.Samples.{pointBy, boxOf, AllDouble, placeOf, listed, pointsOf, positionAt}
+use Rattle.stages.specs.Samples.{pointBy, boxOf, AllDouble, placeOf, pointsOf, positionAt}
 use Rattle.stages.specs.Stages.{Stage}
 use Rattle.stages.specs.Inner.Clustered.{Ascending, Proper}
 use Rattle.stages.proofs.Members.{stage-all}
 use Rattle.stages.proofs.Readback.{head-in, tail-in, stage-proper}
 use Rattle.stages.proofs.SampleClusters.{markAt}
-use Rattle.stages.proofs.SampleMarks.{mark-leads, set-marked, sample-clustered}
+use Rattle.stages.proofs.SampleMarks.{set-marked, sample-clustered}
 
 -- ---- a vertex was made for some edges, each with a point
 

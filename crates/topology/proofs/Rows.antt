@@ -5,7 +5,6 @@ use mathlib.Core.List.{List}
 use Prim.Native.Nat.{ℕ, _+_, _<_, _≤_}
 use native.Mathlib.Omega.{arith}
 use lib.Dec.{T, ltb, ltb→lt}
-use lib.ListN.{getD}
 use lib.Ieee.{Float}
 use lib.Bits.{bitAnd}
 use lib.Count.{trailingZeros}
@@ -18,7 +17,6 @@ use Rattle.tables.specs.declared.FlatHole.{FlatHole}
 use Rattle.tables.specs.Edges.{areNeighbours}
 use Rattle.tables.specs.FlatHoles.{holeOf, flatHoles, flatHole}
 use Rattle.samples.specs.declared.Sample.{Sample}
-use Rattle.samples.specs.declared.Sample.the-variants.{Missing}
 use Rattle.topology.specs.declared.TwoEdges.{TwoEdges}
 use Rattle.topology.specs.Walk.{lowBit}
 use Rattle.topology.specs.Flat.{twoEdges, collapsesAt, endAt, pairsCollapse, rowFlat, isFlat}

@@ -1,5 +1,5 @@
 -- Determinants of numbers of at most 10,000: how large they and their parts are, and that the machine's sums and products are theirs. Assumes nothing.
-use mathlib.Core.Path.{_≡_, sym, ap, _∙_, subst}
+use mathlib.Core.Path.{_≡_, sym, _∙_, subst}
 use Prim.Native.Nat.{ℕ, _*_, _≤_}
 use native.Mathlib.Omega.{arith}
 use lib.IntN.{ℤ, _+ℤ_, _-ℤ_, _*ℤ_}
@@ -8,7 +8,7 @@ use mir.Val.{SFits}
 use Rattle.laws.specs.Ints.{sizeOf}
 use Rattle.volume.specs.Volume.{det9}
 use Rattle.volume.specs.Parts.{Sized}
-use Rattle.laws.proofs.Sizes.{size-add, size-sub, size-fits, mul-most, rd, rd-small, rd-le, mul-is, add-is}
+use Rattle.laws.proofs.Sizes.{size-add, size-sub, size-fits, mul-most, rd, rd-small, mul-is, add-is}
 
 pub minor-most : (a b c d : ℤ) → sizeOf a ≤ 10000 → sizeOf b ≤ 10000 → sizeOf c ≤ 10000 → sizeOf d ≤ 10000 → sizeOf (a *ℤ d -ℤ b *ℤ c) ≤ 200000000
 minor-most a b c d p q r s = omega (arith, size-sub (a *ℤ d) (b *ℤ c), mul-most a d 10000 10000 p s, mul-most b c 10000 10000 q r)

@@ -9,7 +9,6 @@ use Rattle.lattice.proofs.OtherEnds.{across-up, across-down}
 use borrow.Author.Needs.{needs}
 use Rattle.lattice.proofs.across.Statement.{statement}
 use Rattle.lattice.proofs.across.Tie as tie
-use Rattle.tables.proofs.label_corner.Reads as label-corner-reads
 
 coordinates-requires : tie.Need-coordinates-requires
 coordinates-requires c κs = search needs
