@@ -11,7 +11,7 @@ use lib.Bits.{bitAnd, bitXor, xor-lt, mask-lt}
 use lib.Count.{trailingZeros, onesIn}
 use lib.Pow.{pow-lt, pow-mono}
 use Rattle.laws.specs.Digits.{digit, isSet}
-use Rattle.laws.specs.Visits.{setPlaces, Visiting}
+use Rattle.laws.specs.Inner.Visits.{setPlaces, Visiting}
 use Rattle.laws.specs.Ranges.{each}
 use Rattle.laws.specs.Lists.{keep}
 use Rattle.laws.proofs.Ranges.{eq-or, each-keep, each-same, each-nil, each-split}

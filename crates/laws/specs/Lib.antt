@@ -3,10 +3,10 @@ pub mod Bools
 pub mod Ranges
 pub mod Lists
 pub mod Digits
-pub mod Visits
 pub mod Written
 pub mod Filling
 pub mod Couples
 pub mod Triangles
 pub mod Ints
 pub mod Promises
+pub mod Inner

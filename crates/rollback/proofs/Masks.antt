@@ -11,7 +11,7 @@ use lib.Dec.{eqb}
 use lib.ListN.{length, getD}
 use Rattle.laws.specs.Bools.{bit}
 use Rattle.laws.specs.Digits.{isSet, mask}
-use Rattle.laws.specs.Visits.{setPlaces, Visiting}
+use Rattle.laws.specs.Inner.Visits.{setPlaces, Visiting}
 use Rattle.laws.specs.Ranges.{each}
 use Rattle.laws.specs.Lists.{keep}
 use Rattle.laws.proofs.Digits.{mask-lt}

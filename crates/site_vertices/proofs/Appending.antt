@@ -10,7 +10,7 @@ use lib.Pow.{pow-lt, pow-pos}
 use lib.ListN.{length, set, length-append}
 use lib.Seq.{sets, length-sets}
 use lib.Ieee.{Float}
-use Rattle.laws.specs.Visits.{setPlaces, Visiting}
+use Rattle.laws.specs.Inner.Visits.{setPlaces, Visiting}
 use Rattle.laws.specs.Ranges.{each}
 use Rattle.laws.specs.Lists.{keep}
 use Rattle.laws.proofs.Ranges.{each-add}

@@ -8,7 +8,7 @@ use lib.Bits.{bitAnd, bitXor}
 use lib.Count.{trailingZeros, onesIn}
 use lib.ListN.{length, set}
 use lib.Ieee.{Float}
-use Rattle.laws.specs.Visits.{setPlaces, Visiting}
+use Rattle.laws.specs.Inner.Visits.{setPlaces, Visiting}
 use Rattle.laws.specs.Lists.{keep}
 use Rattle.laws.proofs.Ranges.{lt-or}
 use Rattle.laws.proofs.Lists.{keep-append, map-append}

@@ -10,7 +10,7 @@ use lib.Count.{onesIn}
 use Rattle.laws.specs.Lists.{keep}
 use Rattle.laws.specs.Filling.{Filling}
 use Rattle.laws.specs.Digits.{digit, isSet}
-use Rattle.laws.specs.Visits.{setPlaces}
+use Rattle.laws.specs.Inner.Visits.{setPlaces}
 use Rattle.laws.proofs.Ranges.{each-keep, each-map, each-same, each-le}
 use Rattle.laws.proofs.Filling.{fill-start, fill-room, fill-turn, fill-end}
 use Rattle.laws.proofs.Digits.{digit-set, digit-unset}

@@ -5,7 +5,7 @@ use Prim.Native.Nat.{_*_, _^_, _<_, _%_}
 use native.Mathlib.Omega.{arith}
 use lib.Bits.{bitOr, bitXor}
 use lib.Count.{trailingZeros, onesIn}
-use Rattle.laws.specs.Visits.{Visiting}
+use Rattle.laws.specs.Inner.Visits.{Visiting}
 use Rattle.laws.proofs.Visits.{visit-start, low-here, low-bit, off-less}
 use Rattle.rollback.proofs.Masks.{Holds, held-turn, held-end}
 use Rattle.rollback.proofs.held_mask.Statement.{statement}
