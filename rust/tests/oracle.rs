@@ -1,7 +1,8 @@
 //! Generated and kept count files through the archive and through the oracle (SPOONTHICKET_ORACLE names its program): every answer must
-//! be equal, masks, edge table, positions, book and triangles among it. Without the variable nothing is compared, and the test says so.
+//! be equal, masks, edge table, positions, book and triangles among it; and the topology test of all masks, NaN and infinities at the ends among the values.
+//! Without the variable nothing is compared, and the tests say so.
 
-use spoonthicket::{build, count_file, NONE};
+use spoonthicket::{build, count_file, topology, NONE};
 use std::fmt::Write as _;
 use std::io::Write as _;
 use std::process::{Command, Stdio};
@@ -94,4 +95,50 @@ fn equal_to_the_oracle() {
         done += usize::from(ours.starts_with("status=0\n"));
     }
     println!("{} files equal, {done} of them builds", all.len());
+}
+
+/// A value at an end, as tools/oracle/FORMAT.md draws it (`--topology-all`). A missing one is handed over as a NaN.
+fn drawn(x: &mut u64) -> f64 {
+    *x = x.wrapping_mul(6364136223846793005).wrapping_add(1442695040888963407);
+    let usual = [1.0, -1.0, 3.0, -3.0, 0.5, -0.5, 1.0, -1.0, 3.0, -3.0, 0.5, -0.5, 2.0, -2.0, 1.0, -1.0, 3.0, -3.0, 0.5, -0.5];
+    match (*x >> 59) as usize {
+        k @ 0..=19 => usual[k],
+        20 => 0.0,
+        21 => -0.0,
+        22 => f64::from_bits(0xbe112e0be826d695),
+        23 => f64::from_bits(0xbe112e0be826d696),
+        24 => f64::from_bits(1),
+        25 => 1e308,
+        26 => -1e308,
+        27 => 1.0,
+        29 => f64::INFINITY,
+        30 => f64::NEG_INFINITY,
+        _ => f64::NAN,
+    }
+}
+
+/// The topology test of all 16,384 masks, for SPOONTHICKET_SEEDS seeds (20 if not given).
+#[test]
+fn every_mask() {
+    let Ok(oracle) = std::env::var("SPOONTHICKET_ORACLE") else {
+        println!("SPOONTHICKET_ORACLE is not set: no comparison of the topology test with the oracle");
+        return;
+    };
+    let seeds: u64 = std::env::var("SPOONTHICKET_SEEDS").map_or(20, |n| n.parse().expect("SPOONTHICKET_SEEDS is no number"));
+    for seed in 1..=seeds {
+        let mut x = seed;
+        let mut ours = String::new();
+        for mask in 0..1 << 14 {
+            let ends = std::array::from_fn(|_| drawn(&mut x));
+            let (case, clusters) = topology(mask, 1, &ends);
+            let _ = write!(ours, "{mask:04x} {case} {}", clusters.len());
+            for cluster in clusters {
+                let _ = write!(ours, " {cluster:04x}");
+            }
+            ours.push('\n');
+        }
+        let theirs = run(&oracle, &["--topology-all", &seed.to_string()], b"");
+        assert!(ours.as_bytes() == theirs, "seed {seed}: another answer");
+    }
+    println!("topology: all masks, {seeds} seeds, equal");
 }
