@@ -403,6 +403,16 @@ module _ {A : Type 0} where
   total-at d f (x ∷ xs) zero h = omega arith
   total-at d f (x ∷ xs) (suc i) h = omega (arith, total-at d f xs i (omega arith))
 
+  -- those that are kept pass the test
+  pub keep-pass : (p : A → Bool) (xs : List A) → All (λ x. p x ≡ true) (keep p xs)
+  unfolding All keep
+  keep-pass p [] = tt
+  keep-pass p (x ∷ xs) = go (p x) refl (keep-pass p xs)
+    where
+      go : (c : Bool) → p x ≡ c → All (λ x. p x ≡ true) (keep p xs) → All (λ x. p x ≡ true) (cond c (x ∷ keep p xs) (keep p xs))
+      go true q r = (q, r)
+      go false q r = r
+
   pub all-kept : (P : A → Type 0) (p : A → Bool) (xs : List A) → All P xs → All P (keep p xs)
   unfolding All keep
   all-kept P p [] a = tt

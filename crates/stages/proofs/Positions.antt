@@ -10,7 +10,7 @@ use lib.Ieee.{Float}
 use Rattle.laws.specs.Lists.{keep, All}
 use Rattle.laws.proofs.Bools.{and-apart}
 use Rattle.laws.proofs.Ranges.{each-all, each-one-length}
-use Rattle.laws.proofs.Lists.{keep-le}
+use Rattle.laws.proofs.Lists.{keep-le, keep-pass}
 use Rattle.samples.specs.declared.Crossing.the-variants.{SameSide, At}
 use Rattle.samples.specs.Sides.{finite, inside, markFraction, crossing, near}
 use Rattle.lattice.specs.declared.Sides.{Sides}
@@ -47,15 +47,6 @@ record Pointed (b : Box) (x : Vertex) : Type 0 where
   pub some : filled (x .edges) ≡ true
   pub points : All (λ e. b .point (x .site) e ≡ true) (x .edges)
 
-kept-pass : (p : ℕ → Bool) (es : List ℕ) → All (λ e. p e ≡ true) (keep p es)
-unfolding All keep
-kept-pass p [] = tt
-kept-pass p (e ∷ es) = go (p e) refl (kept-pass p es)
-  where
-    go : (c : Bool) → p e ≡ c → All (λ e. p e ≡ true) (keep p es) → All (λ e. p e ≡ true) (cond c (e ∷ keep p es) (keep p es))
-    go true q r = (q, r)
-    go false q r = r
-
 module _ (b : Box) where
   singles-pointed : (r s : ℕ) (es : List ℕ) → All (λ e. b .point s e ≡ true) es → All (Pointed b) (map (λ e. fresh r s (e ∷ [])) es)
   unfolding All fresh filled
@@ -81,7 +72,7 @@ module _ (b : Box) where
     where
       go : (c : Bool) → filled (keep (b .point s) l) ≡ c → All (Pointed b) (map (fresh 0 s) (keep filled (map (keep (b .point s)) ls)))
           → All (Pointed b) (map (fresh 0 s) (cond c (keep (b .point s) l ∷ keep filled (map (keep (b .point s)) ls)) (keep filled (map (keep (b .point s)) ls))))
-      go true q r = (record { some = q; points = kept-pass (b .point s) l }, r)
+      go true q r = (record { some = q; points = keep-pass (b .point s) l }, r)
       go false q r = r
 
   stage-pointed : {vs : List Vertex} → Stage b vs → All (Pointed b) vs
