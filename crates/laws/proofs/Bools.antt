@@ -68,6 +68,12 @@ beq→eq true false t = absurd t
 beq→eq false true t = absurd t
 beq→eq false false t = refl
 
+pub beq-sym : (a b : Bool) → Bool·beq a b ≡ Bool·beq b a
+beq-sym true true = refl
+beq-sym true false = refl
+beq-sym false true = refl
+beq-sym false false = refl
+
 -- ---- numbers
 
 pub bit-le : (b : Bool) → bit b ≤ 1

@@ -1,5 +1,5 @@
 -- Every position of every stage of a build is finite, whatever the samples are: a vertex has some edges, and each of them is crossed and has finite ends. Assumes nothing.
-use mathlib.Core.Path.{_≡_, refl, ap}
+use mathlib.Core.Path.{_≡_, refl, sym, ap, _∙_}
 use mathlib.Core.Bool.{Bool, true, false, _&&_, Bool·beq, cond, false≢true}
 use mathlib.Core.List.{List, [], _∷_, map}
 use Prim.Native.Nat.{ℕ, suc, _≤_, _<_}
@@ -8,9 +8,10 @@ use lib.Dec.{ltb}
 use lib.ListN.{length}
 use lib.Ieee.{Float}
 use Rattle.laws.specs.Lists.{keep, All}
-use Rattle.laws.proofs.Bools.{and-apart}
+use Rattle.laws.proofs.Bools.{and-apart, beq-sym}
 use Rattle.laws.proofs.Ranges.{each-all, each-one-length}
 use Rattle.laws.proofs.Lists.{keep-le, keep-pass}
+use Rattle.samples.specs.declared.Crossing.{Crossing}
 use Rattle.samples.specs.declared.Crossing.the-variants.{SameSide, At}
 use Rattle.samples.specs.Sides.{finite, inside, markFraction, crossing, near}
 use Rattle.lattice.specs.declared.Sides.{Sides}
@@ -82,25 +83,14 @@ module _ (b : Box) where
 
 -- ---- a marked edge is crossed
 
-near-differs : (x y h : Float) → near (crossing x y h) ≡ true → Bool·beq (inside x h) (inside y h) ≡ false
+-- whichever end is asked about: an edge that is not crossed is marked at neither
+differs : (marks : Crossing → Bool) → marks SameSide ≡ false → (x y h : Float) → marks (crossing x y h) ≡ true → Bool·beq (inside x h) (inside y h) ≡ false
 unfolding crossing
-near-differs x y h = go (inside x h) (inside y h)
+differs marks none x y h = go (Bool·beq (inside x h) (inside y h))
   where
-    go : (a b : Bool) → near (cond (Bool·beq a b) SameSide (At (markFraction x y))) ≡ true → Bool·beq a b ≡ false
-    go true true m = absurd (false≢true m)
-    go true false m = refl
-    go false true m = refl
-    go false false m = absurd (false≢true m)
-
-beyond-differs : (x y h : Float) → beyond (crossing x y h) ≡ true → Bool·beq (inside y h) (inside x h) ≡ false
-unfolding crossing
-beyond-differs x y h = go (inside x h) (inside y h)
-  where
-    go : (a b : Bool) → beyond (cond (Bool·beq a b) SameSide (At (markFraction x y))) ≡ true → Bool·beq b a ≡ false
-    go true true m = absurd (false≢true m)
-    go true false m = refl
-    go false true m = refl
-    go false false m = absurd (false≢true m)
+    go : (d : Bool) → marks (cond d SameSide (At (markFraction x y))) ≡ true → d ≡ false
+    go true m = absurd (false≢true (sym none ∙ m))
+    go false m = refl
 
 marked-differs : (S : List Float) (h : Float) (s e t : ℕ) → markedBy S h s e (end.At t) ≡ true → Bool·beq (inside (sample S s) h) (inside (sample S t) h) ≡ false
 unfolding markedBy
@@ -108,8 +98,8 @@ marked-differs S h s e t m = go (ltb e 7) m
   where
     go : (c : Bool) → cond c (near (crossing (sample S s) (sample S t) h)) (beyond (crossing (sample S t) (sample S s) h)) ≡ true
         → Bool·beq (inside (sample S s) h) (inside (sample S t) h) ≡ false
-    go true q = near-differs (sample S s) (sample S t) h q
-    go false q = beyond-differs (sample S t) (sample S s) h q
+    go true q = differs near refl (sample S s) (sample S t) h q
+    go false q = beq-sym (inside (sample S s) h) (inside (sample S t) h) ∙ differs beyond refl (sample S t) (sample S s) h q
 
 -- ---- its point, the points of a vertex, and their mean
 
