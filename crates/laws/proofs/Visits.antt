@@ -19,10 +19,10 @@ use Rattle.laws.proofs.Digits.{digit-lt, digit-zero, digit-and, digit-x
 
 -- ---- one digit taken off: it is no longer set, and the others stay
 
-off-same : (m l : ℕ) → digit m l ≡ 1 → digit (bitXor m (2 ^ l)) l ≡ 0
+pub off-same : (m l : ℕ) → digit m l ≡ 1 → digit (bitXor m (2 ^ l)) l ≡ 0
 off-same m l s = omega (arith, digit-xor m (2 ^ l) l, digit-pow-same l)
 
-off-other : (m l e : ℕ) → (l ≡ e → ⊥) → digit (bitXor m (2 ^ l)) e ≡ digit m e
+pub off-other : (m l e : ℕ) → (l ≡ e → ⊥) → digit (bitXor m (2 ^ l)) e ≡ digit m e
 off-other m l e n = omega (arith, digit-xor m (2 ^ l) e, digit-pow-other l e n, digit-lt m e)
 
 -- ---- the places of the set digits, one by one

@@ -1,10 +1,11 @@
--- The numbers to check by (docs/SCOPE.md, S14.1): sides, crossings and marks, the topology test, cases. One table, one statement, which antt computes. Assumes nothing.
+-- The numbers to check by (docs/SCOPE.md, S14.1): sides, crossings and marks, neighbours, the topology test, cases. One table, one statement, which antt computes. Assumes nothing.
 use mathlib.Core.Path.{_≡_, refl}
 use mathlib.Core.Bool.{Bool, true, false}
 use mathlib.Core.List.{List, [], _∷_, map}
 use Prim.Native.Nat.{ℕ, _+_, _^_}
 use lib.IntN.{pos}
 use lib.ListN.{length}
+use lib.Bits.{bitAnd}
 use lib.Count.{trailingZeros}
 use lib.Ieee.{Float, nan, inf, fin, binary64, lt, neg, sub, div, ofBits}
 use Rattle.laws.specs.Bools.{bit}
@@ -37,6 +38,10 @@ pub data Ask : Type 0 where
   side : Float → Ask
   -- a box of 2 x 1 x 1 sites with these samples: its one edge leads from site 0, the owner, to site 1
   edge : Float → Float → Ask
+  -- are the two edges neighbours?
+  both : ℕ → ℕ → Ask
+  -- which edges of the mask are neighbours of the edge?
+  beside : ℕ → ℕ → Ask
   -- the topology test of a mask, to be clustered, with the samples at the fourteen ends
   near : ℕ → List Sample → Ask
   -- a tetrahedron with these samples at its four corners
@@ -47,6 +52,9 @@ pub data Answer : Type 0 where
   isInside : Bool → Answer
   -- where the edge is crossed, and the masks of the two sites
   isCrossed : Crossing → List ℕ → Answer
+  areSo : Bool → Answer
+  -- as a mask
+  areThese : ℕ → Answer
   -- the case and the clusters
   isCase : TopologyResult → Answer
   -- the case and how many triangles it has
@@ -58,6 +66,8 @@ pair = record { nu = 2; nv = 1; nw = 1 }
 unfoldable pub answer : Ask → Answer
 answer (side v) = isInside (inside v base)
 answer (edge a b) = isCrossed (crossing a b base) (masksOf pair (a ∷ b ∷ []) base)
+answer (both e f) = areSo (areNeighbours e f)
+answer (beside e m) = areThese (bitAnd (neighbourMask e) m)
 answer (near m ends) = isCase (topologyOf m true ends base)
 answer (tetrahedron a b c d) = hasTriangles (caseFrom a b c d base) (length (mtRow (caseFrom a b c d base)))
 
@@ -123,6 +133,20 @@ table =
     -- on one side there is no mark; a fraction that is NaN marks the other end
     ∷ row (edge (plus 1) (plus 3)) (isCrossed SameSide nobody)
     ∷ row (edge (inf false) (inf true)) (isCrossed (At nan) byOther)
+    -- neighbours' deltas differ by 2 on the first axis, or by 1 on two; not by 2 on the second or the third, by 4 in all, or by nothing
+    ∷ row (both 0 9) (areSo true)
+    ∷ row (both 0 4) (areSo true)
+    ∷ row (both 0 2) (areSo false)
+    ∷ row (both 5 10) (areSo false)
+    ∷ row (both 0 5) (areSo false)
+    ∷ row (both 0 0) (areSo false)
+    -- there is no edge 14
+    ∷ row (both 0 13) (areSo true)
+    ∷ row (both 0 14) (areSo false)
+    ∷ row (both 14 0) (areSo false)
+    ∷ row (beside 0 0xFFFF) (areThese (only (1 ∷ 3 ∷ 4 ∷ 9 ∷ 12 ∷ 13 ∷ [])))
+    ∷ row (beside 0 0x2005) (areThese (only (13 ∷ [])))
+    ∷ row (beside 0 0x0000) (areThese (only []))
     -- masks, with their clusters by edges
     ∷ row (near 0x0000 noEnds) (says SimpleSurface [])
     ∷ row (near 0xC000 noEnds) (says SimpleSurface [])

@@ -3,6 +3,9 @@ use mathlib.Core.Path.{sym, _∙_}
 use Rattle.laws.specs.Promises.{OneAnswer}
 use Rattle.tables.proofs.edge_delta.Reads as edge-delta
 use Rattle.tables.proofs.reverse_edge.Reads as reverse-edge
+use Rattle.tables.proofs.is_delta.Reads as is-delta
+use Rattle.tables.proofs.are_neighbours.Reads as are-neighbours
+use Rattle.tables.proofs.neighbours_in.Reads as neighbours-in
 use Rattle.tables.proofs.neighbour_mask.Reads as neighbour-mask
 use Rattle.tables.proofs.flat_hole.Reads as flat-hole
 use Rattle.tables.proofs.label_corner.Reads as label-corner
@@ -18,6 +21,15 @@ edge-delta-determined κ a y z e f p q = p ∙ sym q
 
 pub reverse-edge-determined : OneAnswer reverse-edge.Post
 reverse-edge-determined κ a y z e f p q = p ∙ sym q
+
+pub is-delta-determined : OneAnswer is-delta.Post
+is-delta-determined κ a y z e f p q = p ∙ sym q
+
+pub are-neighbours-determined : OneAnswer are-neighbours.Post
+are-neighbours-determined κ a y z e f p q = p ∙ sym q
+
+pub neighbours-in-determined : OneAnswer neighbours-in.Post
+neighbours-in-determined κ a y z e f p q = p ∙ sym q
 
 pub neighbour-mask-determined : OneAnswer neighbour-mask.Post
 neighbour-mask-determined κ a y z e f p q = p ∙ sym q

@@ -1,10 +1,13 @@
 // The constant tables of the lattice's fourteen edges and of the march, each read by a function with an exact promise.
 // Every index is the caller's to keep in range: the callers are loops over the tables' own sizes.
 ghost use mathlib.Core.Path.{_≡_};
-ghost use Prim.Native.Nat.{suc, _<_};
+ghost use Prim.Native.Nat.{suc, _≤_, _<_};
 ghost use lib.ListN.{length, getD};
+ghost use lib.IntN.{pos, _-ℤ_};
+ghost use lib.Bits.{bitAnd};
+ghost use Rattle.laws.specs.Ints.{sizeOf};
 ghost use Rattle.laws.specs.Triangles.{flat};
-ghost use Rattle.tables.specs.Edges.{delta, reverse, neighbourMask, cornerOf};
+ghost use Rattle.tables.specs.Edges.{Small, offset, minus, deltas, delta, among, reverse, areNeighbours, neighbourMask, cornerOf};
 ghost use Rattle.tables.specs.FlatHoles.{flatHole};
 ghost use Rattle.tables.specs.Tets.{tetLabel, tetCorner, tetPair, edgeIn};
 ghost use Rattle.tables.specs.Cases.{mtRow};
@@ -45,16 +48,22 @@ const EDGE_DELTAS: [[i8; 3]; 14] = [
     [-1, 0, 1],
 ];
 
+// A row as an offset.
+fn offset_of(row: [i8; 3]) -> Delta
+    ensures { λ r. ⌜ r ≡ offset (getD row 0 (pos 0)) (getD row 1 (pos 0)) (getD row 2 (pos 0)) ⌝ }
+{
+    Delta {
+        i: row[0],
+        j: row[1],
+        k: row[2],
+    }
+}
+
 pub fn edge_delta(e: usize) -> Delta
     requires { ⌜ e < 14 ⌝ }
     ensures { λ r. ⌜ r ≡ delta e ⌝ }
 {
-    let d = EDGE_DELTAS[e];
-    Delta {
-        i: d[0],
-        j: d[1],
-        k: d[2],
-    }
+    offset_of(EDGE_DELTAS[e])
 }
 
 // The label of each edge as its other end sees it.
@@ -67,29 +76,84 @@ pub fn reverse_edge(e: usize) -> usize
     REVERSE_EDGE[e]
 }
 
-// The neighbours of each edge, as a mask (the paper's Table 3).
-const NEIGHBOUR_MASKS: [u16; 14] = [
-    0x321A,
-    0x2015,
-    0x24B2,
-    0x0251,
-    0x006F,
-    0x00D4,
-    0x03B8,
-    0x0D64,
-    0x0AC0,
-    0x1949,
-    0x2884,
-    0x3780,
-    0x2A01,
-    0x1C07,
-];
+// The size of a number without its sign, of the least one too.
+fn size(x: i8) -> u8
+    ensures { λ r. ⌜ r ≡ sizeOf x ⌝ }
+{
+    if x < 0 {
+        let m = -1 - x;
+        return (m as u8) + 1;
+    }
+    x as u8
+}
 
+// Whether an offset is a delta: the sizes on the three axes add up to 2, and neither the second nor the third is 2.
+pub fn is_delta(d: Delta) -> bool
+    ensures { λ r. ⌜ r ≡ among d deltas ⌝ }
+{
+    let i = size(d.i) as usize;
+    let j = size(d.j) as usize;
+    let k = size(d.k) as usize;
+    if i + j + k == 2 {
+        if j < 2 {
+            return k < 2;
+        }
+    }
+    false
+}
+
+// a - b, for what is at most 2 on an axis.
+fn apart(a: i8, b: i8) -> i8
+    requires { ⌜ (sizeOf a ≤ 2) × (sizeOf b ≤ 2) ⌝ }
+    ensures { λ r. ⌜ r ≡ a -ℤ b ⌝ }
+{
+    a - b
+}
+
+// Whether the difference of two deltas, axis by axis, is a delta.
+fn differ_by_delta(d: Delta, g: Delta) -> bool
+    requires { ⌜ Small d × Small g ⌝ }
+    ensures { λ r. ⌜ r ≡ among (minus d g) deltas ⌝ }
+{
+    let i = apart(d.i, g.i);
+    let j = apart(d.j, g.j);
+    let k = apart(d.k, g.k);
+    is_delta(Delta { i, j, k })
+}
+
+// Two edges are neighbours if the difference of their deltas is a delta.
+pub fn are_neighbours(e: usize, f: usize) -> bool
+    requires { ⌜ (e < 14) × (f < 14) ⌝ }
+    ensures { λ r. ⌜ r ≡ areNeighbours e f ⌝ }
+{
+    differ_by_delta(edge_delta(e), edge_delta(f))
+}
+
+// The neighbours of e among the edges of a mask: each of them is asked as `are_neighbours` asks, with the rows read out once.
+pub fn neighbours_in(e: usize, mask: u16) -> u16
+    requires { ⌜ e < 14 ⌝ }
+    ensures { λ r. ⌜ r ≡ bitAnd (neighbourMask e) «mask» ⌝ }
+{
+    let rows = EDGE_DELTAS;
+    let d = offset_of(rows[e]);
+    let mut left = mask & ALL14_MASK;
+    let mut found: u16 = 0;
+    while left != 0 {
+        let f = u16::trailing_zeros(left) as usize;
+        left ^= 1u16 << f;
+        let g = offset_of(rows[f]);
+        let near = differ_by_delta(d, g) as u16;
+        found |= near << f;
+    }
+    found
+}
+
+// All neighbours of e.
 pub fn neighbour_mask(e: usize) -> u16
     requires { ⌜ e < 14 ⌝ }
     ensures { λ r. ⌜ r ≡ neighbourMask e ⌝ }
 {
-    NEIGHBOUR_MASKS[e]
+    neighbours_in(e, ALL14_MASK)
 }
 
 pub struct FlatHole {

@@ -37,8 +37,8 @@ inner-start m b p h e =
     rw (q, xor-back 14 m (2 ^ low m) h (pow-lt (low-14 m p h)))
     (record { walking = walking-start m p h; fuel = 14; enough = omega (arith, ones-le 14 m); ends = refl })
 
-pub inner-turn : (m rem comp fr b ns : ℕ) → 0 < fr → b ≡ lowBit fr → ns ≡ neighbourMask (trailingZeros 16 b) → Inner m rem comp fr
-    → Inner m (bitXor rem (bitAnd ns rem)) (bitOr comp b) (bitOr (bitXor fr b) (bitAnd ns rem))
+pub inner-turn : (m rem comp fr b ns : ℕ) → 0 < fr → b ≡ lowBit fr → ns ≡ bitAnd (neighbourMask (trailingZeros 16 b)) rem → Inner m rem comp fr
+    → Inner m (bitXor rem ns) (bitOr comp b) (bitOr (bitXor fr b) ns)
 unfolding found remTurn frTurn compTurn
 inner-turn m rem comp fr b ns p e en j =
     rw (en, zeros fr b p (j .walking .fr-short) e, e ∙ lowBit-pos fr p) (go (j .fuel) (j .enough) (j .ends))

@@ -75,7 +75,7 @@ pub fn connected_components_masks(edge_mask: u16) -> Components
             frontier ^= b;
             let e = u16::trailing_zeros(b) as usize;
             comp |= b;
-            let nbrs = tables::neighbour_mask(e) & remaining;
+            let nbrs = tables::neighbours_in(e, remaining);
             remaining ^= nbrs;
             frontier |= nbrs;
         }

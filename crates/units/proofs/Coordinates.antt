@@ -1,19 +1,19 @@
 -- A whole number less an i64 origin: what is small is given exactly, and no step overflows. Assumes nothing.
-use mathlib.Core.Path.{_≡_, refl, sym, ap, ap₂, _∙_, subst}
-use mathlib.Core.Bool.{Bool, true, false, cond, false≢true, true≢false}
+use mathlib.Core.Path.{_≡_, refl, sym, ap, ap₂, _∙_}
+use mathlib.Core.Bool.{Bool, true, false, cond}
 use mathlib.Core.Option.{some}
 use Prim.Native.Nat.{ℕ, _+_, _-_, _^_, _≤_, _<_}
 use native.Mathlib.Omega.{arith}
-use lib.Dec.{T, leb}
-use borrow.Author.Tests.{le-leb, lt-leb, le-ltb}
-use lib.IntN.{ℤ, pos, negsuc, negℤ, natAbs, _-ℤ_, +ℤ-idl}
-use lib.Signed.{ltZ, nonNeg, mag}
+use lib.Dec.{leb}
+use borrow.Author.Tests.{le-leb, lt-leb}
+use lib.IntN.{ℤ, pos, negℤ, _-ℤ_, +ℤ-idl}
+use lib.Signed.{ltZ}
 use mir.Syntax.{w64}
-use mir.Val.{Fits, SFits, toZ}
+use mir.Val.{SFits, toZ}
 use mir.ValLaws.{toZ-pos, toZ-ofZ}
 use Rattle.laws.specs.Ints.{sizeOf, signed}
-use Rattle.laws.proofs.Ints.{nat, minus-suc, _⊞_, neg, rep-eq}
-use Rattle.laws.proofs.Sizes.{size-neg, size-fits, fits-size, rd, rd-small}
+use Rattle.laws.proofs.Ints.{nat, _⊞_, neg, rep-eq}
+use Rattle.laws.proofs.Sizes.{size-neg, size-fits, rd, rd-small, below-zero, not-below}
 use Rattle.units.specs.Coordinates.{within, less, coordinateOf}
 use Rattle.units.specs.declared.Coordinate.{Coordinate}
 use Rattle.units.specs.declared.Coordinate.the-variants.{Far, At}
@@ -77,56 +77,6 @@ module _ (n a : ℕ) where
   both-minus : pos a -ℤ pos n ≡ negℤ (pos n) -ℤ negℤ (pos a)
   both-minus = rep-eq (nat a ⊞ neg (nat n)) (neg (nat n) ⊞ neg (neg (nat a))) (omega arith)
 
--- ---- the size of an i64, of the least one too
-
-below-zero : (o : ℤ) → SFits w64 o → ltZ (rd o) (pos 0) ≡ true → o ≡ negsuc (mag o)
-below-zero (pos n) f l = absurd (false≢true (sym (le-ltb n 0 (omega arith)) ∙ sym (ap (λ (y : ℤ). ltZ y (pos 0)) (toZ-ofZ w64 (pos n) f)) ∙ l))
-below-zero (negsuc n) f l = refl
-
-not-below : (o : ℤ) → SFits w64 o → ltZ (rd o) (pos 0) ≡ false → o ≡ pos (sizeOf o)
-unfolding sizeOf
-not-below (pos n) f l = refl
-not-below (negsuc n) f l = absurd (true≢false (sym (ap (λ (y : ℤ). ltZ y (pos 0)) (toZ-ofZ w64 (negsuc n) f)) ∙ l))
-
-module _ (o : ℤ) (f : SFits w64 o) where
-  mag-lt : mag o < 2 ^ 63
-  mag-lt = f .sfits
-
-  module _ (l : ltZ (rd o) (pos 0) ≡ true) where
-    o-is : o ≡ negsuc (mag o)
-    o-is = below-zero o f l
-
-    turned : negsuc 0 -ℤ rd o ≡ pos (mag o)
-    turned =
-        ap (λ (y : ℤ). negsuc 0 -ℤ y) (toZ-ofZ w64 o f ∙ o-is)
-        ∙ rep-eq (minus-suc 0 ⊞ neg (minus-suc (mag o))) (nat (mag o)) (omega arith)
-
-    pub turned-fits : SFits w64 (negsuc 0 -ℤ rd o)
-    turned-fits = rw turned (record { sfits = mag-lt })
-
-    turned-rd : rd (negsuc 0 -ℤ rd o) ≡ pos (mag o)
-    turned-rd = toZ-ofZ w64 (negsuc 0 -ℤ rd o) turned-fits ∙ turned
-
-    pub turned-cast : T (nonNeg (rd (negsuc 0 -ℤ rd o))) × Fits w64 (natAbs (rd (negsuc 0 -ℤ rd o)))
-    turned-cast = subst (λ (y : ℤ). T (nonNeg y) × Fits w64 (natAbs y)) (sym turned-rd) (tt, record { fits = omega (arith, mag-lt) })
-
-    pub turned-room : Fits w64 (natAbs (rd (negsuc 0 -ℤ rd o)) + 1)
-    turned-room = subst (λ (y : ℤ). Fits w64 (natAbs y + 1)) (sym turned-rd) (record { fits = omega (arith, mag-lt) })
-
-    pub turned-size : natAbs (rd (negsuc 0 -ℤ rd o)) + 1 ≡ sizeOf o
-    unfolding sizeOf
-    turned-size = ap (λ (y : ℤ). natAbs y + 1) turned-rd ∙ (omega arith ∙ ap sizeOf (sym o-is))
-
-  module _ (l : ltZ (rd o) (pos 0) ≡ false) where
-    rd-is : rd o ≡ pos (sizeOf o)
-    rd-is = toZ-ofZ w64 o f ∙ not-below o f l
-
-    pub high-cast : T (nonNeg (rd o)) × Fits w64 (natAbs (rd o))
-    high-cast = subst (λ (y : ℤ). T (nonNeg y) × Fits w64 (natAbs y)) (sym rd-is) (tt, record { fits = omega (arith, fits-size o f) })
-
-    pub high-size : natAbs (rd o) ≡ sizeOf o
-    high-size = ap natAbs rd-is
-
 -- ---- the four ways of a whole number less the origin
 
 module _ (minus : Bool) (n a : ℕ) (o : ℤ) (f : SFits w64 o) (e : a ≡ sizeOf (rd o)) (r : Coordinate) where
@@ -135,10 +85,10 @@ module _ (minus : Bool) (n a : ℕ) (o : ℤ) (f : SFits w64 o) (e : a ≡ sizeO
 
   neg-is : ltZ (rd o) (pos 0) ≡ true → o ≡ negℤ (pos a)
   unfolding sizeOf
-  neg-is l = let k = below-zero o f l in k ∙ ap (λ (y : ℕ). negℤ (pos y)) (sym (size-is ∙ ap sizeOf k))
+  neg-is l = let k = below-zero w64 o f l in k ∙ ap (λ (y : ℕ). negℤ (pos y)) (sym (size-is ∙ ap sizeOf k))
 
   pos-is : ltZ (rd o) (pos 0) ≡ false → o ≡ pos a
-  pos-is l = not-below o f l ∙ ap pos (sym size-is)
+  pos-is l = not-below w64 o f l ∙ ap pos (sym size-is)
 
   pub way-one : ltZ (rd o) (pos 0) ≡ true → minus ≡ true → r ≡ coordinateOf (some (pos a)) (pos n) → r ≡ coordinateOf (some (signed minus n)) o
   unfolding signed

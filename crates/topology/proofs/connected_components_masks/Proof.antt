@@ -42,8 +42,8 @@ edge-lt c = let w = c .before .before .walk in zeros-lt (w .frontier) (c .lowbit
 cast-e : tie.Need-cast-e Inv-walk μ-walk Inv-comps μ-comps
 cast-e c = omega (arith, edge-lt c)
 
-neighbour-mask-requires : tie.Need-neighbour-mask-requires Inv-walk μ-walk Inv-comps μ-comps
-neighbour-mask-requires c κs = edge-lt c
+neighbours-in-requires : tie.Need-neighbours-in-requires Inv-walk μ-walk Inv-comps μ-comps
+neighbours-in-requires c κs = edge-lt c
 
 walk-less : tie.Need-walk-less Inv-walk μ-walk Inv-comps μ-comps
 walk-less c =
@@ -53,7 +53,7 @@ walk-less c =
 walk-again : tie.Need-walk-again Inv-walk μ-walk Inv-comps μ-comps
 walk-again c =
     let w = c .before .before .before .walk in
-    inner-turn _ (w .remaining) (w .comp) (w .frontier) (c .before .lowbit2 .result) _ (omega arith) (c .before .lowbit2 .ensures) (c .neighbour-mask .ensures) (w .inv)
+    inner-turn _ (w .remaining) (w .comp) (w .frontier) (c .before .lowbit2 .result) _ (omega arith) (c .before .lowbit2 .ensures) (c .neighbours-in .ensures) (w .inv)
 
 module _ (c : tie.After-walk Inv-walk μ-walk Inv-comps μ-comps) where
   some : 0 < c .before .before .before .before .comps .remaining
@@ -89,5 +89,5 @@ returns c = outer-end _ (c .before .comps .remaining) _ _ (c .comps-test .left) 
 pub connected-components-masks-spec : {M : Type 1} → statement M
 connected-components-masks-spec =
     tie.close
-    (tie.spec Inv-walk μ-walk Inv-comps μ-comps comps-holds lowbit-requires walk-holds lowbit-requires-2 cast-e neighbour-mask-requires walk-less walk-again
+    (tie.spec Inv-walk μ-walk Inv-comps μ-comps comps-holds lowbit-requires walk-holds lowbit-requires-2 cast-e neighbours-in-requires walk-less walk-again
     mul-masks array-write-masks add-count comps-less comps-again returns)
