@@ -7,6 +7,7 @@ use Rattle.tables.proofs.is_delta.Reads as is-delta
 use Rattle.tables.proofs.are_neighbours.Reads as are-neighbours
 use Rattle.tables.proofs.neighbours_in.Reads as neighbours-in
 use Rattle.tables.proofs.neighbour_mask.Reads as neighbour-mask
+use Rattle.tables.proofs.flat_hole_rows.Reads as flat-hole-rows
 use Rattle.tables.proofs.flat_hole.Reads as flat-hole
 use Rattle.tables.proofs.label_corner.Reads as label-corner
 use Rattle.tables.proofs.tet_label.Reads as tet-label
@@ -33,6 +34,9 @@ neighbours-in-determined κ a y z e f p q = p ∙ sym q
 
 pub neighbour-mask-determined : OneAnswer neighbour-mask.Post
 neighbour-mask-determined κ a y z e f p q = p ∙ sym q
+
+pub flat-hole-rows-determined : OneAnswer flat-hole-rows.Post
+flat-hole-rows-determined κ a y z e f p q = p ∙ sym q
 
 pub flat-hole-determined : OneAnswer flat-hole.Post
 flat-hole-determined κ a y z e f p q = p ∙ sym q

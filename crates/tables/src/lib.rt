@@ -1,6 +1,7 @@
 // The constant tables of the lattice's fourteen edges and of the march, each read by a function with an exact promise.
 // Every index is the caller's to keep in range: the callers are loops over the tables' own sizes.
 ghost use mathlib.Core.Path.{_≡_};
+ghost use mathlib.Core.List.{map};
 ghost use Prim.Native.Nat.{suc, _≤_, _<_};
 ghost use lib.ListN.{length, getD};
 ghost use lib.IntN.{pos, _-ℤ_};
@@ -8,7 +9,7 @@ ghost use lib.Bits.{bitAnd};
 ghost use Rattle.laws.specs.Ints.{sizeOf};
 ghost use Rattle.laws.specs.Triangles.{flat};
 ghost use Rattle.tables.specs.Edges.{Small, offset, minus, deltas, delta, among, reverse, areNeighbours, neighbourMask, cornerOf};
-ghost use Rattle.tables.specs.FlatHoles.{flatHole};
+ghost use Rattle.tables.specs.FlatHoles.{holeCells, flatHoles, flatHole};
 ghost use Rattle.tables.specs.Tets.{tetLabel, tetCorner, tetPair, edgeIn};
 ghost use Rattle.tables.specs.Cases.{mtRow};
 
@@ -201,11 +202,19 @@ const FLAT_HOLE_MASKS: [[u16; 2]; 36] = [
     [0x3000, 0x0801],
 ];
 
+// All rows, for a caller that goes through them: they are written out once, and not once for each.
+pub fn flat_hole_rows() -> [[u16; 2]; 36]
+    ensures { λ r. ⌜ r ≡ map holeCells flatHoles ⌝ }
+{
+    FLAT_HOLE_MASKS
+}
+
 pub fn flat_hole(i: usize) -> FlatHole
     requires { ⌜ i < 36 ⌝ }
     ensures { λ r. ⌜ r ≡ flatHole i ⌝ }
 {
-    let row = FLAT_HOLE_MASKS[i];
+    let rows = flat_hole_rows();
+    let row = rows[i];
     FlatHole {
         edges: row[0],
         opposite: row[1],

@@ -162,11 +162,12 @@ fn pairs_collapse(ends: [Sample; 14], off: TwoEdges, on: TwoEdges, h: f64) -> bo
 fn is_flat_hole(surface_comp: u16, ends: [Sample; 14], h: f64) -> bool
     ensures { λ r. ⌜ r ≡ isFlat «surface_comp» ends h ⌝ }
 {
+    let rows = tables::flat_hole_rows();
     let mut i: usize = 0;
     'rows: while i < FLAT_HOLES {
-        let row = tables::flat_hole(i);
-        let edge_mask = row.edges;
-        let opposite_mask = row.opposite;
+        let row = rows[i];
+        let edge_mask = row[0];
+        let opposite_mask = row[1];
         i += 1;
         if surface_comp & edge_mask != 0 {
             continue 'rows;

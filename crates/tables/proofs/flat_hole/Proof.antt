@@ -3,13 +3,13 @@ use mathlib.Core.Path.{ap}
 use mathlib.Core.List.{List}
 use Prim.Native.Nat.{ℕ}
 use lib.ListN.{getD}
-use Rattle.tables.specs.Edges.{areNeighbours}
-use Rattle.tables.specs.FlatHoles.{flatHoles, holeOf}
-use Rattle.laws.specs.Bools.{bit}
 use Rattle.tables.proofs.Source.{hole-at}
 use borrow.Author.Needs.{needs}
 use Rattle.tables.proofs.flat_hole.Statement.{statement}
 use Rattle.tables.proofs.flat_hole.Tie as tie
+
+flat-hole-rows-requires : tie.Need-flat-hole-rows-requires
+flat-hole-rows-requires c κs = search needs
 
 mul-row : tie.Need-mul-row
 mul-row c = search needs
@@ -17,16 +17,17 @@ mul-row c = search needs
 array-copy-out-row : tie.Need-array-copy-out-row
 array-copy-out-row c = search needs
 
-array-read-t46 : tie.Need-array-read-t46
-array-read-t46 c = search needs
+array-read-t11 : tie.Need-array-read-t11
+array-read-t11 c = search needs
 
-array-read-t49 : tie.Need-array-read-t49
-array-read-t49 c = search needs
+array-read-t14 : tie.Need-array-read-t14
+array-read-t14 c = search needs
 
 returns : tie.Need-returns
-unfolding flatHoles holeOf areNeighbours bit
-returns c = ap (λ (l : List ℕ). record { edges = getD l 0 0; opposite = getD l 1 0 }) (hole-at _ (c .before .pre))
+returns c =
+    ap (λ (l : List ℕ). record { edges = getD l 0 0; opposite = getD l 1 0 })
+    (hole-at _ _ (c .before .flat-hole-rows .ensures) (c .before .before .pre))
 
 pub flat-hole-spec : {M : Type 1} → statement M
 flat-hole-spec =
-    tie.close (tie.spec mul-row array-copy-out-row array-read-t46 array-read-t49 returns)
+    tie.close (tie.spec flat-hole-rows-requires mul-row array-copy-out-row array-read-t11 array-read-t14 returns)

@@ -2,13 +2,15 @@
 use borrow.Author.Needs.{needs}
 use mathlib.Core.Path.{_≡_, sym, ap, ap₂, _∙_}
 use mathlib.Core.Bool.{false}
-use mathlib.Core.List.{List}
+use mathlib.Core.List.{List, []}
 use Prim.Native.Nat.{ℕ, _+_, _-_}
 use native.Mathlib.Omega.{arith}
+use lib.ListN.{getD}
 use lib.Ieee.{Float}
 use lib.Bits.{bitAnd}
 use Rattle.tables.specs.declared.FlatHole.{FlatHole}
-use Rattle.tables.specs.FlatHoles.{flatHole}
+use Rattle.tables.specs.FlatHoles.{flatHole, holeCells}
+use Rattle.tables.proofs.Source.{hole-at}
 use Rattle.samples.specs.declared.Sample.{Sample}
 use Rattle.topology.specs.declared.TwoEdges.{TwoEdges}
 use Rattle.topology.specs.Flat.{twoEdges, pairsCollapse, rowFlat}
@@ -17,40 +19,58 @@ use Rattle.topology.proofs.is_flat_hole.Statement.{statement}
 use Rattle.topology.proofs.is_flat_hole.Tie as tie
 
 abbrev Inv-rows : tie.InvT-rows
-Inv-rows surface-comp ends h i₀ i = NoneSo surface-comp ends h i
+Inv-rows surface-comp ends h rows i₀ i = NoneSo surface-comp ends h i
 
 abbrev μ-rows : tie.MeasureT-rows
-μ-rows surface-comp ends h i₀ i = 36 - i
+μ-rows surface-comp ends h rows i₀ i = 36 - i
+
+flat-hole-rows-requires : tie.Need-flat-hole-rows-requires Inv-rows μ-rows
+flat-hole-rows-requires c κs = search needs
 
 rows-holds : tie.Need-rows-holds Inv-rows μ-rows
 rows-holds c = rows-start _ _ _
 
-flat-hole-requires : tie.Need-flat-hole-requires Inv-rows μ-rows
-flat-hole-requires c κs = search needs
+mul-row : tie.Need-mul-row Inv-rows μ-rows
+mul-row c = search needs
+
+array-copy-out-row : tie.Need-array-copy-out-row Inv-rows μ-rows
+array-copy-out-row c = search needs
+
+array-read-edge-mask : tie.Need-array-read-edge-mask Inv-rows μ-rows
+array-read-edge-mask c = search needs
+
+array-read-opposite-mask : tie.Need-array-read-opposite-mask Inv-rows μ-rows
+array-read-opposite-mask c = search needs
 
 add-i : tie.Need-add-i Inv-rows μ-rows
 add-i c = search needs
 
 -- ---- with the row at hand
 
-module _ (c : tie.After-flat-hole Inv-rows μ-rows) where
+module _ (c : tie.After-row Inv-rows μ-rows) where
   abbrev mask : ℕ
-  mask = c .before .before .before .args .surface-comp
+  mask = c .before .before .before .before .args .surface-comp
 
   abbrev ends : List Sample
-  ends = c .before .before .before .args .ends
+  ends = c .before .before .before .before .args .ends
 
   abbrev h : Float
-  h = c .before .before .before .args .h
+  h = c .before .before .before .before .args .h
 
   abbrev row : FlatHole
   row = flatHole (c .before .before .rows .i)
 
-  is-edges : c .flat-hole .result .edges ≡ row .edges
-  is-edges = ap (λ (r : FlatHole). r .edges) (c .flat-hole .ensures)
+  abbrev cells : List ℕ
+  cells = getD (c .before .before .before .flat-hole-rows .result) (c .before .before .rows .i) []
 
-  is-opposite : c .flat-hole .result .opposite ≡ row .opposite
-  is-opposite = ap (λ (r : FlatHole). r .opposite) (c .flat-hole .ensures)
+  is-cells : cells ≡ holeCells row
+  is-cells = hole-at _ _ (c .before .before .before .flat-hole-rows .ensures) (c .before .rows-test .taken)
+
+  is-edges : getD cells 0 0 ≡ row .edges
+  is-edges = ap (λ (l : List ℕ). getD l 0 0) is-cells
+
+  is-opposite : getD cells 1 0 ≡ row .opposite
+  is-opposite = ap (λ (l : List ℕ). getD l 1 0) is-cells
 
   skip : rowFlat mask ends h row ≡ false → NoneSo mask ends h (c .before .before .rows .i + 1)
   skip f = row-skip mask ends h (c .before .before .rows .i) (c .before .rows-test .taken) (c .before .before .rows .inv) f
@@ -82,7 +102,7 @@ two-edge-indices-requires-2 c κs = search needs
 -- ---- with the four edges at hand
 
 module _ (c : tie.After-two-edge-indices2 Inv-rows μ-rows) where
-  abbrev found : tie.After-flat-hole Inv-rows μ-rows
+  abbrev found : tie.After-row Inv-rows μ-rows
   found = c .before .before .before .before
 
   abbrev off : TwoEdges
@@ -108,7 +128,7 @@ pairs-collapse-requires : tie.Need-pairs-collapse-requires Inv-rows μ-rows
 pairs-collapse-requires c κs = edges-lt (found c .before .before .rows .i) (found c .before .rows-test .taken) (off c) (on c) (is-off c) (is-on c)
 
 module _ (c : tie.After-pairs-collapse Inv-rows μ-rows) where
-  abbrev from : tie.After-flat-hole Inv-rows μ-rows
+  abbrev from : tie.After-row Inv-rows μ-rows
   from = found (c .before)
 
   told : rowFlat (mask from) (ends from) (h from) (row from) ≡ c .pairs-collapse .result
@@ -131,5 +151,5 @@ returns-2 c = rows-end _ _ _ (c .before .rows .i) (c .rows-test .left) (c .befor
 pub is-flat-hole-spec : {M : Type 1} → statement M
 is-flat-hole-spec =
     tie.close
-    (tie.spec Inv-rows μ-rows rows-holds flat-hole-requires add-i rows-less rows-again rows-less-2 rows-again-2 two-edge-indices-requires two-edge-indices-requires-2
+    (tie.spec Inv-rows μ-rows flat-hole-rows-requires rows-holds mul-row array-copy-out-row array-read-edge-mask array-read-opposite-mask add-i rows-less rows-again rows-less-2 rows-again-2 two-edge-indices-requires two-edge-indices-requires-2
     pairs-collapse-requires returns rows-less-3 rows-again-3 returns-2)
