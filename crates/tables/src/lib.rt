@@ -1,4 +1,4 @@
-// The constant tables of the lattice's fourteen edges and of the march, each read by a function with an exact promise.
+// The constant tables of the lattice's fourteen edges and of the march, each read by a function with an exact promise, and the neighbours of an edge, worked out.
 // Every index is the caller's to keep in range: the callers are loops over the tables' own sizes.
 ghost use mathlib.Core.Path.{_≡_};
 ghost use mathlib.Core.List.{map};
@@ -149,7 +149,7 @@ pub fn neighbours_in(e: usize, mask: u16) -> u16
     found
 }
 
-// All neighbours of e.
+// All neighbours of e (a row of the paper's Table 3).
 pub fn neighbour_mask(e: usize) -> u16
     requires { ⌜ e < 14 ⌝ }
     ensures { λ r. ⌜ r ≡ neighbourMask e ⌝ }
