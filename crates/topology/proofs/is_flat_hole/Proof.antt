@@ -9,8 +9,8 @@ use lib.ListN.{getD}
 use lib.Ieee.{Float}
 use lib.Bits.{bitAnd}
 use Rattle.tables.specs.declared.FlatHole.{FlatHole}
-use Rattle.tables.specs.FlatHoles.{flatHole, holeCells}
-use Rattle.tables.proofs.Source.{hole-at}
+use Rattle.tables.specs.FlatHoles.{flatHole}
+use Rattle.tables.proofs.Source.{hole-edges, hole-opposite}
 use Rattle.samples.specs.declared.Sample.{Sample}
 use Rattle.topology.specs.declared.TwoEdges.{TwoEdges}
 use Rattle.topology.specs.Flat.{twoEdges, pairsCollapse, rowFlat}
@@ -60,17 +60,11 @@ module _ (c : tie.After-row Inv-rows μ-rows) where
   abbrev row : FlatHole
   row = flatHole (c .before .before .rows .i)
 
-  abbrev cells : List ℕ
-  cells = getD (c .before .before .before .flat-hole-rows .result) (c .before .before .rows .i) []
+  is-edges : getD (getD (c .before .before .before .flat-hole-rows .result) (c .before .before .rows .i) []) 0 0 ≡ row .edges
+  is-edges = hole-edges _ _ (c .before .before .before .flat-hole-rows .ensures) (c .before .rows-test .taken)
 
-  is-cells : cells ≡ holeCells row
-  is-cells = hole-at _ _ (c .before .before .before .flat-hole-rows .ensures) (c .before .rows-test .taken)
-
-  is-edges : getD cells 0 0 ≡ row .edges
-  is-edges = ap (λ (l : List ℕ). getD l 0 0) is-cells
-
-  is-opposite : getD cells 1 0 ≡ row .opposite
-  is-opposite = ap (λ (l : List ℕ). getD l 1 0) is-cells
+  is-opposite : getD (getD (c .before .before .before .flat-hole-rows .result) (c .before .before .rows .i) []) 1 0 ≡ row .opposite
+  is-opposite = hole-opposite _ _ (c .before .before .before .flat-hole-rows .ensures) (c .before .rows-test .taken)
 
   skip : rowFlat mask ends h row ≡ false → NoneSo mask ends h (c .before .before .rows .i + 1)
   skip f = row-skip mask ends h (c .before .before .rows .i) (c .before .rows-test .taken) (c .before .before .rows .inv) f
