@@ -27,7 +27,8 @@ use Rattle.laws.proofs.Digits.{digit-lt, digit-zero, digit-and, digit-or, digit
 use Rattle.laws.proofs.Sizes.{read, minus-read}
 use Rattle.laws.proofs.Visits.{low-here, low-bit, off-short, off-same, off-other}
 use Rattle.tables.specs.declared.Delta.{Delta}
-use Rattle.tables.specs.Edges.{offset, minus, same, deltas, delta, among, Small, areNeighbours, neighbourMask}
+use Rattle.tables.specs.Edges.{offset, minus, same, deltas, delta, among, areNeighbours, neighbourMask}
+use Rattle.tables.specs.Inner.Offsets.{Small}
 use Rattle.tables.proofs.Edges.{same→eq, offset-eq, neighbour-rule, neighbour-lt}
 
 -- ---- what a delta is, by the sizes of its axes

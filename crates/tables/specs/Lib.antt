@@ -3,3 +3,4 @@ pub mod Edges
 pub mod FlatHoles
 pub mod Tets
 pub mod Cases
+pub mod Inner
