@@ -1,2 +1,3 @@
--- Sides of the surface and crossings of edges.
+-- Sides of the surface and crossings of edges, with the free fraction and with the held one.
 pub mod Sides
+pub mod Held

@@ -10,8 +10,15 @@ use Rattle.samples.specs.declared.Crossing.the-variants.{SameSide, At}
 abbrev pub base : Float
 base = ofBits binary64 0x3E112E0BE826D695
 
+-- 0.0, 0.5 and 1.0
+abbrev pub nought : Float
+nought = ofBits binary64 0
+
 abbrev pub half : Float
 half = ofBits binary64 0x3FE0000000000000
+
+abbrev pub one : Float
+one = ofBits binary64 0x3FF0000000000000
 
 -- inside means v < -h; a NaN is outside
 unfoldable pub inside : Float → Float → Bool
@@ -30,12 +37,17 @@ unfoldable pub known : Sample → Sample
 known Missing = Missing
 known (Value x) = whenFinite x
 
--- the fraction of a mark, and that of a point: each may move without the other
+-- the fraction of a mark, which is free
 unfoldable pub markFraction : Float → Float → Float
 markFraction a b = div binary64 a (sub binary64 a b)
 
+-- below 0 it is 0, above 1 it is 1, otherwise unchanged: a NaN, which is neither, and -0.0 among it
+unfoldable pub hold : Float → Float
+hold t = cond (lt t nought) nought (cond (lt one t) one t)
+
+-- the fraction of a point, which is held
 unfoldable pub pointFraction : Float → Float → Float
-pointFraction a b = div binary64 a (sub binary64 a b)
+pointFraction a b = hold (markFraction a b)
 
 -- the edge from a to b: the same side, or the fraction
 unfoldable pub crossing : Float → Float → Float → Crossing

@@ -1,7 +1,7 @@
 // Samples: which side of the surface a value is on, whether it is finite, and where the surface crosses an edge.
 // The threshold h is a parameter of every function that asks for a side.
 ghost use mathlib.Core.Path.{_≡_};
-ghost use Rattle.samples.specs.Sides.{inside, finite, markFraction, pointFraction, crossing, whenFinite};
+ghost use Rattle.samples.specs.Sides.{inside, finite, markFraction, hold, pointFraction, crossing, whenFinite};
 
 // Inside means below -INSIDE where nobody chose another threshold.
 pub const INSIDE: f64 = 1.0e-9;
@@ -51,11 +51,24 @@ pub fn mark_fraction(a: f64, b: f64) -> f64
     a / (a - b)
 }
 
+// Held between 0 and 1. A NaN is neither below nor above, and stays.
+fn hold(t: f64) -> f64
+    ensures { λ r. ⌜ r ≡ hold t ⌝ }
+{
+    if t < 0.0 {
+        return 0.0;
+    }
+    if 1.0 < t {
+        return 1.0;
+    }
+    t
+}
+
 // The fraction at which a point stands on its edge.
 pub fn point_fraction(a: f64, b: f64) -> f64
     ensures { λ r. ⌜ r ≡ pointFraction a b ⌝ }
 {
-    a / (a - b)
+    hold(mark_fraction(a, b))
 }
 
 // The crossing of the edge from a to b.

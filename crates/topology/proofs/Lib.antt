@@ -9,4 +9,5 @@ pub mod Others
 pub mod Answers
 pub mod Ends
 pub mod FlatMeaning
+pub mod Held
 pub mod Determined
