@@ -1,9 +1,9 @@
--- The numbers to check by (docs/SCOPE.md, S14.1): sides, crossings and marks, neighbours, the topology test, cases. One table, one statement, which antt computes. Assumes nothing.
+-- The numbers to check by (docs/SCOPE.md, S14.1): sides, crossings, marks and fractions, neighbours, the topology test, cases. One table, one statement, which antt computes. Assumes nothing.
 use mathlib.Core.Path.{_≡_, refl}
 use mathlib.Core.Bool.{Bool, true, false}
 use mathlib.Core.List.{List, [], _∷_, map}
 use Prim.Native.Nat.{ℕ, _+_, _^_}
-use lib.IntN.{pos}
+use lib.IntN.{pos, negsuc}
 use lib.ListN.{length}
 use lib.Bits.{bitAnd}
 use lib.Count.{trailingZeros}
@@ -18,7 +18,7 @@ use Rattle.samples.specs.declared.Sample.{Sample}
 use Rattle.samples.specs.declared.Sample.the-variants.{Missing, Value}
 use Rattle.samples.specs.declared.Crossing.{Crossing}
 use Rattle.samples.specs.declared.Crossing.the-variants.{SameSide, At}
-use Rattle.samples.specs.Sides.{base, half, inside, finite, whenFinite, known, markFraction, crossing, isNear}
+use Rattle.samples.specs.Sides.{base, half, inside, finite, whenFinite, known, markFraction, hold, pointFraction, crossing, isNear}
 use Rattle.lattice.specs.declared.Sides.{Sides}
 use Rattle.lattice.specs.Sites.{sites, inBox, siteOf, uvwOf, step}
 use Rattle.lattice.specs.Across.{upward, downward, acrossAt, acrossOf}
@@ -38,6 +38,10 @@ pub data Ask : Type 0 where
   side : Float → Ask
   -- a box of 2 x 1 x 1 sites with these samples: its one edge leads from site 0, the owner, to site 1
   edge : Float → Float → Ask
+  -- a fraction, to be held
+  toHold : Float → Ask
+  -- at which fraction does the point on an edge stand, from the first value towards the second?
+  point : Float → Float → Ask
   -- are the two edges neighbours?
   both : ℕ → ℕ → Ask
   -- which edges of the mask are neighbours of the edge?
@@ -52,6 +56,7 @@ pub data Answer : Type 0 where
   isInside : Bool → Answer
   -- where the edge is crossed, and the masks of the two sites
   isCrossed : Crossing → List ℕ → Answer
+  isFraction : Float → Answer
   areSo : Bool → Answer
   -- as a mask
   areThese : ℕ → Answer
@@ -66,6 +71,8 @@ pair = record { nu = 2; nv = 1; nw = 1 }
 unfoldable pub answer : Ask → Answer
 answer (side v) = isInside (inside v base)
 answer (edge a b) = isCrossed (crossing a b base) (masksOf pair (a ∷ b ∷ []) base)
+answer (toHold t) = isFraction (hold t)
+answer (point a b) = isFraction (pointFraction a b)
 answer (both e f) = areSo (areNeighbours e f)
 answer (beside e m) = areThese (bitAnd (neighbourMask e) m)
 answer (near m ends) = isCase (topologyOf m true ends base)
@@ -78,6 +85,17 @@ plus n = fin false n (pos 0)
 
 abbrev pub minus : ℕ → Float
 minus n = fin true n (pos 0)
+
+-- 2 ^ -1074, the least f64 above 0, and the f64 after 1
+abbrev pub least : Bool → Float
+least negative = fin negative 1 (negsuc 1073)
+
+abbrev pub afterOne : Float
+afterOne = ofBits binary64 0x3FF0000000000001
+
+-- a hair below -1.0e-9: the next f64
+abbrev pub hair : Float
+hair = ofBits binary64 0xBE112E0BE826D696
 
 -- a set of edges as a mask
 abbrev pub only : List ℕ → ℕ
@@ -125,7 +143,7 @@ unfoldable pub table : List Row
 table =
     -- −1.0e-9 is outside, the next f64 below is inside, a NaN is outside
     row (side (neg base)) (isInside false)
-    ∷ row (side (ofBits binary64 0xBE112E0BE826D696)) (isInside true)
+    ∷ row (side hair) (isInside true)
     ∷ row (side nan) (isInside false)
     -- from 1 to −1 the fraction is exactly 0.5, and the other end is marked; from 1 to −3 it is 0.25, and the owner is
     ∷ row (edge (plus 1) (minus 1)) (isCrossed (At half) byOther)
@@ -133,6 +151,23 @@ table =
     -- on one side there is no mark; a fraction that is NaN marks the other end
     ∷ row (edge (plus 1) (plus 3)) (isCrossed SameSide nobody)
     ∷ row (edge (inf false) (inf true)) (isCrossed (At nan) byOther)
+    -- from −1.0e-9 to a hair below it, both negative, the fraction is about −4.8e15, and the owner is marked; the other way round it is as far above 1
+    ∷ row (edge (neg base) hair) (isCrossed (At (minus 4835703278458517)) byOwner)
+    ∷ row (edge hair (neg base)) (isCrossed (At (fin false 2417851639229259 (pos 1))) byOther)
+    -- the point stands at the end where the fraction is held
+    ∷ row (point (neg base) hair) (isFraction (plus 0))
+    ∷ row (point hair (neg base)) (isFraction (plus 1))
+    ∷ row (point (plus 1) (minus 3)) (isFraction (ofBits binary64 0x3FD0000000000000))
+    -- below 0 it is 0, above 1 it is 1, otherwise unchanged: −0.0 and a NaN too
+    ∷ row (toHold (plus 0)) (isFraction (plus 0))
+    ∷ row (toHold (minus 0)) (isFraction (minus 0))
+    ∷ row (toHold (least true)) (isFraction (plus 0))
+    ∷ row (toHold (least false)) (isFraction (least false))
+    ∷ row (toHold (plus 1)) (isFraction (plus 1))
+    ∷ row (toHold afterOne) (isFraction (plus 1))
+    ∷ row (toHold nan) (isFraction nan)
+    ∷ row (toHold (inf true)) (isFraction (plus 0))
+    ∷ row (toHold (inf false)) (isFraction (plus 1))
     -- neighbours' deltas differ by 2 on the first axis, or by 1 on two; not by 2 on the second or the third, by 4 in all, or by nothing
     ∷ row (both 0 9) (areSo true)
     ∷ row (both 0 4) (areSo true)
@@ -170,7 +205,7 @@ table =
     ∷ []
 
 pub numbers : map (λ (r : Row). answer (r .ask)) table ≡ map (λ (r : Row). r .gets) table
-unfolding answer table inside finite whenFinite known markFraction crossing isNear lt neg sub div ofBits bit each any digit isSet mask trailingZeros
+unfolding answer table inside finite whenFinite known markFraction hold pointFraction crossing isNear lt neg sub div ofBits bit each any digit isSet mask trailingZeros
     corners cornerOf du dv dw sites inBox siteOf uvwOf step upward downward acrossAt acrossOf markedBy marked maskAt masksOf
     topologyOf caseOf kindOf singles isFlat rowFlat pairsCollapse collapsesAt collapses components componentsIn first walk remTurn frTurn compTurn found lowBit
     neighbourMask areNeighbours flatHole flatHoles holeOf caseFrom mtRow

@@ -1,4 +1,4 @@
--- In an accepted frame each point of a crossed edge is finite, and so is each mean of up to fourteen such points. Assumes nothing.
+-- In an accepted frame each point of a crossed edge is at most 2 ^ 33 in size on each axis, and each mean of up to fourteen such points 2 ^ 47: no spike, and all finite. Assumes nothing.
 use Prim.Native.Nat.{ℕ, suc, _+_, _*_, _^_, _≤_}
 use native.Mathlib.Nat.{mul-one, one-mul, le-trans, le-of-eq, mul-le-mul-right}
 use native.Mathlib.Omega.{arith}
@@ -10,6 +10,7 @@ use lib.Dec.{T, lit≤, lit<}
 use lib.ListN.{length}
 use lib.Ieee.{Float, fin, binary64, low, round, ofInt, ofBits, fits}
 use Rattle.samples.specs.Sides.{finite, inside, pointFraction}
+use Rattle.samples.proofs.Held.{one-is}
 use Rattle.lattice.specs.declared.Ijk.{Ijk}
 use Rattle.lattice.specs.declared.Uvw.{Uvw}
 use Rattle.lattice.specs.declared.Sides.{Sides}
@@ -21,13 +22,13 @@ use Rattle.points.specs.declared.EdgePoint.the-variants.{Missing, At}
 use Rattle.points.specs.Positions.{position}
 use Rattle.points.specs.Limits.{frameOk}
 use Rattle.points.specs.EdgePoints.{interpolate, edgePoint}
-use Rattle.points.specs.Means.{zeros, one, plus, times, total, share, meanOf, sumOf, meanSum}
+use Rattle.points.specs.Means.{zeros, plus, times, total, share, meanOf, sumOf, meanSum}
 use Rattle.points.specs.Finite.{finitePoint, hasFinitePoint, Low, OnEdge, AllOnEdges, end, next}
 use Rattle.points.proofs.Sizes.{Under, under-more, under-finite, add-under, mul-under}
 use Rattle.points.proofs.Casts.{ijk-small}
 use Rattle.points.proofs.Limits.{PointUnder, position-under, interpolate-under}
 use Rattle.points.proofs.Gaps.{Units, round-least, fraction-under}
-use Rattle.points.proofs.Fraction.{fraction-under-55}
+use Rattle.points.proofs.Fraction.{held-under}
 use Rattle.points.proofs.Order.{sides-differ}
 use Rattle.points.proofs.Means.{mean-sum}
 
@@ -49,7 +50,7 @@ unfolding edgePoint
 edge-at f a b p q x y = rw (x, y)
 
 -- and where there is a point, the samples are finite and it is that one
-record Known (f : Frame) (a b : Ijk) (p q : Float) (c : Point) : Type 0 where
+pub record Known (f : Frame) (a b : Ijk) (p q : Float) (c : Point) : Type 0 where
   pub p-finite : finite p ≡ true
   pub q-finite : finite q ≡ true
   pub is : interpolate (position f a) (position f b) (pointFraction p q) ≡ c
@@ -62,7 +63,7 @@ abbrev point-or : EdgePoint → Point → Point
 point-or Missing d = d
 point-or (At c) d = c
 
-known : (f : Frame) (a b : Ijk) (p q : Float) (c : Point) → edgePoint f a b p q ≡ At c → Known f a b p q c
+pub known : (f : Frame) (a b : Ijk) (p q : Float) (c : Point) → edgePoint f a b p q ≡ At c → Known f a b p q c
 unfolding edgePoint
 known f a b p q c e = go (finite p) (finite q) refl refl e
   where
@@ -71,20 +72,20 @@ known f a b p q c e = go (finite p) (finite q) refl refl e
     go true false g h e = absurd (false≢true (ap there e))
     go false y g h e = absurd (false≢true (ap there e))
 
-pub edge-under : (f : Frame) (h : Float) (c : Point) → frameOk f ≡ true → OnEdge f h c → PointUnder c 88
+pub edge-under : (f : Frame) (h : Float) (c : Point) → frameOk f ≡ true → OnEdge f h c → PointUnder c 33
 edge-under f h c ok o =
     let a = ijkOf (o .a .u) (o .a .v) (o .a .w) in
     let b = ijkOf (o .b .u) (o .b .v) (o .b .w) in
     let k = known f a b (o .p) (o .q) c (o .is) in
-    subst (λ (r : Point). PointUnder r 88) (k .is)
-    (interpolate-under (position f a) (position f b) (pointFraction (o .p) (o .q)) 55 (lit≤ tt)
+    subst (λ (r : Point). PointUnder r 33) (k .is)
+    (interpolate-under (position f a) (position f b) (pointFraction (o .p) (o .q)) 0 (lit≤ tt)
     (position-under f a ok (ijk-small (o .a .u) (o .a .v) (o .a .w) (o .a-low .on-u) (o .a-low .on-v) (o .a-low .on-w)))
     (position-under f b ok (ijk-small (o .b .u) (o .b .v) (o .b .w) (o .b-low .on-u) (o .b-low .on-v) (o .b-low .on-w)))
-    (fraction-under-55 (o .p) (o .q) (o .p-fits) (o .q-fits) (k .p-finite) (k .q-finite) (sides-differ (o .p) (o .q) h (k .p-finite) (k .q-finite) (o .differ))))
+    (held-under (o .p) (o .q) (o .p-fits) (o .q-fits) (k .p-finite) (k .q-finite) (sides-differ (o .p) (o .q) h (k .p-finite) (k .q-finite) (o .differ))))
 
 -- each point of a crossed edge
 pub on-edge-finite : (f : Frame) (h : Float) (c : Point) → frameOk f ≡ true → OnEdge f h c → finitePoint c ≡ true
-on-edge-finite f h c ok o = under-finite-point c 88 (edge-under f h c ok o)
+on-edge-finite f h c ok o = under-finite-point c 33 (edge-under f h c ok o)
 
 -- finite samples on different sides of any threshold h have a point, and it is finite
 pub edge-finite : (f : Frame) (h : Float) (a b : Uvw) (p q : Float) → frameOk f ≡ true → Low a → Low b → T (fits binary64 p) → T (fits binary64 q)
@@ -98,10 +99,6 @@ edge-finite f h a b p q ok la lb fp fq x y d =
     (record { a = a; b = b; p = p; q = q; a-low = la; b-low = lb; p-fits = fp; q-fits = fq; differ = d; is = e }))
 
 -- ---- a mean
-
-one-is : one ≡ fin false 1 (pos 0)
-unfolding ofBits
-one-is = refl
 
 one-units : Units binary64 1 (pos 0)
 one-units = record { shift = low binary64; small = lit< tt; is = refl; top = lit< tt }
@@ -134,30 +131,30 @@ total-under k (p ∷ ps) acc i h g a (also q r) =
 times-under : (p : Point) (f : Float) (k : ℕ) → k + 0 ≤ 1023 → PointUnder p k → Under f 0 → PointUnder (times p f) (k + 0)
 times-under p f k h a b = record { x = mul-under (p .x) f k 0 h (a .x) b; y = mul-under (p .y) f k 0 h (a .y) b; z = mul-under (p .z) f k 0 h (a .z) b }
 
-zeros-under : PointUnder zeros 88
+zeros-under : PointUnder zeros 33
 unfolding ofBits
 zeros-under = record { x = lit≤ tt; y = lit≤ tt; z = lit≤ tt }
 
-pub mean-under : (ps : List Point) → 1 ≤ length ps → length ps ≤ 900 → AllUnder 88 ps → PointUnder (meanOf ps) (88 + length ps)
+pub mean-under : (ps : List Point) → 1 ≤ length ps → length ps ≤ 900 → AllUnder 33 ps → PointUnder (meanOf ps) (33 + length ps)
 unfolding meanOf
 mean-under [] h g a = absurd (none h)
   where
     none : 1 ≤ 0 → ⊥
     none h = omega arith
-mean-under (p ∷ []) h g (also q a) = record { x = under-more (p .x) 88 89 (lit≤ tt) (q .x); y = under-more (p .y) 88 89 (lit≤ tt) (q .y); z = under-more (p .z) 88 89 (lit≤ tt) (q .z) }
+mean-under (p ∷ []) h g (also q a) = record { x = under-more (p .x) 33 34 (lit≤ tt) (q .x); y = under-more (p .y) 33 34 (lit≤ tt) (q .y); z = under-more (p .z) 33 34 (lit≤ tt) (q .z) }
 mean-under (p ∷ q ∷ ps) h g a =
     let l = suc (suc (length ps)) in
-    let e : 88 + l + 0 ≡ 88 + l = omega arith in
-    let t = total-under 88 (p ∷ q ∷ ps) zeros 88 (lit≤ tt) (omega arith) zeros-under a in
-    rw e at (times-under (total zeros (p ∷ q ∷ ps)) (share l) (88 + l) (omega arith) t (share-under l (omega arith)))
+    let e : 33 + l + 0 ≡ 33 + l = omega arith in
+    let t = total-under 33 (p ∷ q ∷ ps) zeros 33 (lit≤ tt) (omega arith) zeros-under a in
+    rw e at (times-under (total zeros (p ∷ q ∷ ps)) (share l) (33 + l) (omega arith) t (share-under l (omega arith)))
 
-all-under : (f : Frame) (h : Float) (cs : List Point) → frameOk f ≡ true → AllOnEdges f h cs → AllUnder 88 cs
+all-under : (f : Frame) (h : Float) (cs : List Point) → frameOk f ≡ true → AllOnEdges f h cs → AllUnder 33 cs
 all-under f h [] ok end = stop
 all-under f h (c ∷ cs) ok (next o r) = also (edge-under f h c ok o) (all-under f h cs ok r)
 
 pub mean-finite : (f : Frame) (h : Float) (cs : List Point) → frameOk f ≡ true → 1 ≤ length cs → length cs ≤ 14 → AllOnEdges f h cs → finitePoint (meanOf cs) ≡ true
 mean-finite f h cs ok some few o =
-    under-finite-point (meanOf cs) (88 + length cs) (mean-under cs some (omega arith) (all-under f h cs ok o))
+    under-finite-point (meanOf cs) (33 + length cs) (mean-under cs some (omega arith) (all-under f h cs ok o))
 
 -- the same of what `mean` answers once these points are taken in
 pub mean-sum-finite : (f : Frame) (h : Float) (cs : List Point) → frameOk f ≡ true → 1 ≤ length cs → length cs ≤ 14 → AllOnEdges f h cs → finitePoint (meanSum (sumOf cs)) ≡ true

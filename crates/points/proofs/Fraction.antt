@@ -1,18 +1,21 @@
--- The fraction of a point, p / (p - q), is finite where p and q are finite and differ: at most 2 ^ 55 in size. Assumes nothing.
+-- The free fraction p / (p - q) is finite where p and q are finite and differ: at most 2 ^ 55 in size. So it is no NaN, and the held one is at most 1. Assumes nothing.
 use Prim.Native.Nat.{ℕ, zero, suc, _+_, _-_, _*_, _^_, _≤_, _<_, zero-le}
 use native.Mathlib.Nat.{le-trans, le-of-eq, le-of-lt, lt-of-lt-of-le, lt-of-le-of-lt, lt-irrefl, mul-comm, mul-assoc, mul-right-comm, mul-le-mul-right, mul-le-mul-left, mul-lt-mul-of-pos-right, lt-of-mul-lt-mul-right, mul-pos, zero-mul, add-mul, pow-suc, eq-zero-or-pos}
 use native.Mathlib.Omega.{arith}
 use mathlib.Core.Path.{_≡_, refl, sym, ap, _∙_, subst}
 use mathlib.Core.Logic.{inl, inr}
 use mathlib.Core.Bool.{Bool, true, false, not, _&&_, _||_, Bool·beq, cond, true≢false, false≢true}
-use lib.IntN.{ℤ}
+use lib.IntN.{ℤ, pos}
 use lib.Dec.{T, ltb, eqb, lit≤}
 use lib.Pow.{pow-pos}
-use lib.Ieee.{Float, nan, inf, fin, binary64, emax, low, up, down, size, round, sum, neg, add, sub, div, eq, fits}
+use lib.Ieee.{Float, nan, inf, fin, binary64, emax, low, up, down, size, round, sum, neg, add, sub, div, lt, eq, le, isNan, fits}
 use lib.Ieee.Digits.{size-lt, size-reaches, size-le}
 use lib.Ieee.Fits.{down-pos}
 use borrow.Author.Tests.{ltb-true, ltb-false, eq-eqb}
-use Rattle.samples.specs.Sides.{finite, pointFraction}
+use Rattle.samples.specs.Sides.{nought, one, finite, markFraction, pointFraction}
+use Rattle.samples.proofs.Held.{nought-is, one-is, hold-range}
+use Rattle.laws.proofs.Bools.{true-T}
+use Rattle.laws.proofs.Floats.{debt, Most, le-most}
 use Rattle.points.proofs.Sizes.{Under}
 use Rattle.points.proofs.Gaps.{Units, units-of, gap-up, gap-down, Least, round-least, fraction-under}
 
@@ -163,10 +166,50 @@ module _ (s t : Bool) (m : ℕ) (e : ℤ) (n : ℕ) (d : ℤ) (u : Units binary6
   fraction = let r = sub-near in fraction-under s m e (sub binary64 (fin s m e) (fin t n d)) 55 (r .k) u (lit≤ tt) (r .close) (r .least)
 
 -- for all values
-pub fraction-under-55 : (p q : Float) → T (fits binary64 p) → T (fits binary64 q) → finite p ≡ true → finite q ≡ true → eq p q ≡ false → Under (pointFraction p q) 55
-unfolding finite pointFraction
+pub fraction-under-55 : (p q : Float) → T (fits binary64 p) → T (fits binary64 q) → finite p ≡ true → finite q ≡ true → eq p q ≡ false → Under (markFraction p q) 55
+unfolding finite markFraction
 fraction-under-55 nan q f g a b h = absurd (false≢true a)
 fraction-under-55 (inf s) q f g a b h = absurd (false≢true a)
 fraction-under-55 (fin s m e) nan f g a b h = absurd (false≢true b)
 fraction-under-55 (fin s m e) (inf t) f g a b h = absurd (false≢true b)
 fraction-under-55 (fin s m e) (fin t n d) f g a b h = fraction s t m e n d (units-of binary64 s m e f) (units-of binary64 t n d g) h
+
+-- ---- held
+
+-- what lies from 0 to 1 has nothing below zero, and is at most 1
+pub record Part (s : Bool) (m : ℕ) (e : ℤ) : Type 0 where
+  pub none : debt s (m * up e) ≡ 0
+  pub most : m * up e ≤ down e
+
+pub part : (s : Bool) (m : ℕ) (e : ℤ) → T (le (fin false 0 (pos 0)) (fin s m e)) → T (le (fin s m e) (fin false 1 (pos 0))) → Part s m e
+part s m e h g = go s (le-most false 0 (pos 0) s m e h) (le-most s m e false 1 (pos 0) g)
+  where
+    go : (s : Bool) → Most false 0 1 s (m * up e) (down e) → Most s (m * up e) (down e) false 1 1 → Part s m e
+    go false h g = record { none = refl; most = omega arith }
+    go true h g = record { none = omega arith; most = omega arith }
+
+pub part-under : (s : Bool) (m : ℕ) (e : ℤ) → Part s m e → Under (fin s m e) 0
+part-under s m e p = omega (arith, p .most)
+
+unit-under : (x : Float) → T (le (fin false 0 (pos 0)) x) → T (le x (fin false 1 (pos 0))) → Under x 0
+unfolding le lt eq
+unit-under nan a b = absurd a
+unit-under (inf true) a b = absurd a
+unit-under (inf false) a b = absurd b
+unit-under (fin s m e) a b = part-under s m e (part s m e a b)
+
+under-number : (x : Float) (k : ℕ) → Under x k → isNan x ≡ false
+unfolding isNan
+under-number nan k h = absurd h
+under-number (inf s) k h = absurd h
+under-number (fin s m e) k h = refl
+
+pub held-unit : (p q : Float) → T (fits binary64 p) → T (fits binary64 q) → finite p ≡ true → finite q ≡ true → eq p q ≡ false
+    → (le nought (pointFraction p q) ≡ true) × (le (pointFraction p q) one ≡ true)
+unfolding pointFraction
+held-unit p q f g a b h = hold-range (markFraction p q) (under-number (markFraction p q) 55 (fraction-under-55 p q f g a b h))
+
+pub held-under : (p q : Float) → T (fits binary64 p) → T (fits binary64 q) → finite p ≡ true → finite q ≡ true → eq p q ≡ false → Under (pointFraction p q) 0
+held-under p q f g a b h =
+    let r = held-unit p q f g a b h in
+    unit-under (pointFraction p q) (true-T _ (rw nought-is at (r .0))) (true-T _ (rw one-is at (r .1)))

@@ -1,4 +1,4 @@
--- The laws of points: how rounding keeps signs and sizes, the fraction of a point, sums of points, and that points and means are finite.
+-- The laws of points: how rounding keeps signs and sizes, the fraction of a point, sums of points, that points and means are finite, and that a point lies between its ends.
 pub mod Rounding
 pub mod Sizes
 pub mod Casts
@@ -10,3 +10,5 @@ pub mod Means
 pub mod Finite
 pub mod Bits
 pub mod Determined
+pub mod Signed
+pub mod Between

@@ -31,7 +31,7 @@ same-order a b a′ b′ e d E D p q = elim (lt-or a b) [
 same-ratio : (x y e d g : ℕ) → x * d ≡ y * e → x * g * d ≡ y * g * e
 same-ratio x y e d g h = mul-right-comm x g d ∙ ap (λ z. z * g) h ∙ mul-right-comm y e g
 
-zero-of : (x d : ℕ) → 0 < d → x * d ≡ 0 → x ≡ 0
+pub zero-of : (x d : ℕ) → 0 < d → x * d ≡ 0 → x ≡ 0
 zero-of x d D h = elim (eq-zero-or-pos x) [ inl q ↦ q | inr q ↦ absurd (lt-irrefl 0 (subst (λ (y : ℕ). 0 < y) h (mul-pos q D))) ]
 
 same-pos : (X Y e d : ℕ) → 0 < e → 0 < d → X * d ≡ Y * e → ltb 0 X ≡ ltb 0 Y

@@ -1,11 +1,11 @@
--- Examples of points and means, which antt computes: -0.0 alone stays -0.0, beside another it does not. Assumes nothing.
+-- Examples of points and means, which antt computes: where the fraction is held a point stands at an end; -0.0 alone stays -0.0, beside another it does not. Assumes nothing.
 use mathlib.Core.Path.{_≡_, refl}
 use mathlib.Core.Bool.{Bool, true, false}
 use mathlib.Core.List.{[], _∷_}
 use Prim.Native.Nat.{ℕ}
 use lib.IntN.{pos}
-use lib.Ieee.{Float, fin, binary64, add, mul, sub, div, neg, ofInt, ofBits, round, le}
-use Rattle.samples.specs.Sides.{finite, pointFraction}
+use lib.Ieee.{Float, fin, binary64, add, mul, sub, div, neg, ofInt, ofBits, round, lt, le}
+use Rattle.samples.specs.Sides.{base, finite, markFraction, hold, pointFraction}
 use Rattle.lattice.specs.Sites.{ijkOf}
 use Rattle.points.specs.declared.Point.{Point}
 use Rattle.points.specs.declared.Frame.{Frame}
@@ -32,8 +32,40 @@ place = refl
 
 pub middle : edgePoint plain (ijkOf 1 1 1) (ijkOf 2 1 1) (whole true 1) (whole false 1)
     ≡ At (record { x = fin true 3 (pos 1); y = fin false 1 (pos 1); z = fin true 1 (pos 2) })
-unfolding edgePoint interpolate pointFraction finite position along ijkOf add mul sub div ofInt
+unfolding edgePoint interpolate pointFraction markFraction hold finite position along ijkOf add mul sub div lt ofInt ofBits
 middle = refl
+
+-- origin 0, step 1; from a site whose sample is -1.0e-9, and so outside, towards one a hair below it, and the other way round: the free
+-- fraction is about -4.8e15 and 4.8e15, and the point stands at the outside site
+abbrev pub unit : Frame
+unit = record { origin = all (whole false 0); step = all (whole false 1) }
+
+abbrev pub hair : Float
+hair = ofBits binary64 0xBE112E0BE826D696
+
+pub free : markFraction (neg base) hair ≡ whole true 4835703278458517
+unfolding markFraction sub div neg ofBits
+free = refl
+
+pub free-back : markFraction hair (neg base) ≡ fin false 2417851639229259 (pos 1)
+unfolding markFraction sub div neg ofBits
+free-back = refl
+
+pub held : pointFraction (neg base) hair ≡ whole false 0
+unfolding pointFraction hold lt ofBits
+held = rw free
+
+pub held-back : pointFraction hair (neg base) ≡ whole false 1
+unfolding pointFraction hold lt ofBits
+held-back = rw free-back
+
+pub no-spike : edgePoint unit (ijkOf 1 1 1) (ijkOf 2 1 1) (neg base) hair ≡ At (position unit (ijkOf 1 1 1))
+unfolding edgePoint interpolate finite position along ijkOf add mul sub neg ofInt ofBits
+no-spike = rw held
+
+pub no-spike-back : edgePoint unit (ijkOf 2 1 1) (ijkOf 1 1 1) hair (neg base) ≡ At (position unit (ijkOf 1 1 1))
+unfolding edgePoint interpolate finite position along ijkOf add mul sub neg ofInt ofBits
+no-spike-back = rw held-back
 
 pub one-mean : meanOf (all (whole true 0) ∷ []) ≡ all (whole true 0)
 unfolding meanOf

@@ -6,6 +6,7 @@ use Prim.Native.Nat.{_<_}
 use lib.Dec.{T}
 use lib.Ieee.{Float, binary64, fits}
 use Rattle.samples.specs.Sides.{inside, finite}
+use Rattle.lattice.specs.declared.Ijk.{Ijk}
 use Rattle.lattice.specs.declared.Uvw.{Uvw}
 use Rattle.lattice.specs.Sites.{ijkOf}
 use Rattle.points.specs.declared.Point.{Point}
@@ -40,6 +41,13 @@ pub record OnEdge (f : Frame) (h : Float) (c : Point) : Type 0 where
   pub q-fits : T (fits binary64 q)
   pub differ : Bool·beq (inside p h) (inside q h) ≡ false
   pub is : edgePoint f (ijkOf (a .u) (a .v) (a .w)) (ijkOf (b .u) (b .v) (b .w)) p q ≡ At c
+
+-- its two ends: the site that is marked, and its neighbour
+abbrev pub firstEnd : {f : Frame} {h : Float} {c : Point} → OnEdge f h c → Ijk
+firstEnd o = ijkOf (o .a .u) (o .a .v) (o .a .w)
+
+abbrev pub secondEnd : {f : Frame} {h : Float} {c : Point} → OnEdge f h c → Ijk
+secondEnd o = ijkOf (o .b .u) (o .b .v) (o .b .w)
 
 -- each of a list of points is one
 pub data AllOnEdges (f : Frame) (h : Float) : List Point → Type 0 where

@@ -5,16 +5,10 @@ use Prim.Native.Nat.{ℕ, _+_}
 use lib.Dec.{eqb}
 use lib.ListN.{length}
 use lib.IntN.{pos}
-use lib.Ieee.{Float, binary64, add, mul, div, ofInt, ofBits}
+use lib.Ieee.{Float, binary64, add, mul, div, ofInt}
+use Rattle.samples.specs.Sides.{nought, one}
 use Rattle.points.specs.declared.Point.{Point}
 use Rattle.points.specs.declared.Sum.{Sum}
-
--- 0.0 and 1.0
-abbrev pub nought : Float
-nought = ofBits binary64 0
-
-abbrev pub one : Float
-one = ofBits binary64 0x3FF0000000000000
 
 abbrev pub zeros : Point
 zeros = record { x = nought; y = nought; z = nought }

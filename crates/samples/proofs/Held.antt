@@ -15,15 +15,16 @@ use Rattle.samples.specs.declared.Crossing.the-variants.{SameSide, At}
 use Rattle.samples.specs.Sides.{nought, half, one, hold, markFraction, pointFraction, inside, crossing, near, crosses, isNear}
 use Rattle.samples.specs.Held.{heldCrossing}
 
-nought-is : nought ≡ fin false 0 (pos 0)
+-- ---- the three as m * 2 ^ e
+pub nought-is : nought ≡ fin false 0 (pos 0)
 unfolding ofBits
 nought-is = refl
 
-half-is : half ≡ fin false 1 (negsuc 0)
+pub half-is : half ≡ fin false 1 (negsuc 0)
 unfolding ofBits
 half-is = refl
 
-one-is : one ≡ fin false 1 (pos 0)
+pub one-is : one ≡ fin false 1 (pos 0)
 unfolding ofBits
 one-is = refl
 
