@@ -88,7 +88,17 @@ def mean(points):
     return [t * share for t in total]
 
 
-seen = {"cases": 0, "coordinates": 0, "accepted frames": 0, "no point": 0, "NaN": 0, "infinite": 0, "zero": 0, "-0.0": 0, "subnormal": 0}
+def edge_point(here, there, p, q):
+    t = divide(p, p - q)
+    seen["fractions below 0"] += t < 0
+    seen["fractions above 1"] += t > 1
+    seen["fractions NaN"] += t != t
+    t = 0.0 if t < 0 else 1.0 if t > 1 else t
+    return [here[k] + t * (there[k] - here[k]) for k in range(3)]
+
+
+seen = {"cases": 0, "near the threshold": 0, "fractions below 0": 0, "fractions above 1": 0, "fractions NaN": 0,
+        "coordinates": 0, "accepted frames": 0, "no point": 0, "NaN": 0, "infinite": 0, "zero": 0, "-0.0": 0, "subnormal": 0}
 
 
 def show(n):
@@ -121,8 +131,7 @@ def run(x, mode):
     show_point(here)
     p, q = real(d, 0), real(e, 0)
     if math.isfinite(p) and math.isfinite(q):
-        t = divide(p, p - q)
-        show_point([here[k] + t * (there[k] - here[k]) for k in range(3)])
+        show_point(edge_point(here, there, p, q))
     else:
         seen["no point"] += 1
         show(0xFFFF)
@@ -134,8 +143,25 @@ def run(x, mode):
     return following(e)
 
 
+def close(x):
+    return struct.unpack("<d", struct.pack("<Q", 0xBE112E0BE826D68D + (x >> 20) % 17))[0]
+
+
+def near(x):
+    seen["near the threshold"] += 1
+    a = after_three(x)
+    c = following(after_three(a))
+    d = following(c)
+    e = following(d)
+    origin, step = three(x, 1), three(a, 2)
+    show_point(edge_point(place(origin, step, site(c)), place(origin, step, site(d)), close(d), close(e)))
+    return following(e)
+
+
 x = 0x9E3779B97F4A7C15
 for k in range(100):
     x = run(x, 0)
     x = run(x, 1)
+for k in range(100):
+    x = near(x)
 print(seen, file=sys.stderr)

@@ -1,4 +1,4 @@
-// Count files made from a seed: fields of every kind, frames at the limits, refusals, malformed files; and their coverage. All ours.
+// Count files made from a seed: fields of every kind, others near the threshold alone, frames at the limits, refusals, malformed files; and their coverage. All ours.
 
 use crate::countfile::{file_text, on_border, read, run, MOST_SITES};
 use crate::isosurface::{Input, SampleLattice};
@@ -214,6 +214,34 @@ pub fn field(rng: &mut Rng, sides: [usize; 3]) -> Vec<f64> {
     }
 }
 
+/// A value near the threshold, negative: up to four steps of a float from it, or up to half as much again.
+fn close(rng: &mut Rng) -> f64 {
+    if rng.one_in(2) { after(EDGE, rng.below(9) as i64 - 4) } else { EDGE * rng.float(0.5, 1.5) }
+}
+
+/// Samples near the threshold: edges with both ends negative, marked at either end, often several of them at one site.
+pub fn near_field(rng: &mut Rng, sides: [usize; 3]) -> Vec<f64> {
+    let sites: usize = sides.iter().product();
+    match rng.below(6) {
+        0 => (0..sites).map(|_| after(EDGE, rng.below(9) as i64 - 4)).collect(),
+        1 => (0..sites).map(|_| close(rng)).collect(),
+        2 | 3 => {
+            // A usual field, shrunk to about the threshold: smooth surfaces, and so clusters, of such edges.
+            let size = rng.pick(&[1e-10, 1e-11, 1e-13, 1e-15, 2e-25]);
+            field(rng, sides).into_iter().map(|x| if x.is_finite() && x.abs() < 1e6 { EDGE + x * size } else { x }).collect()
+        }
+        4 => {
+            // The border on one side, negative and outside or inside.
+            let outer = rng.pick(&[EDGE * 0.5, EDGE, after(EDGE, 1), EDGE * 2.0]);
+            (0..sites).map(|site| if on_border(sides, site) { outer } else { close(rng) }).collect()
+        }
+        _ => {
+            let some = 2 + rng.below(4);
+            field(rng, sides).into_iter().map(|x| if rng.one_in(some) { close(rng) } else { x }).collect()
+        }
+    }
+}
+
 const ORIGIN_LIMITS: [f64; 2] = [-1e9, 1e9];
 const STEP_LIMITS: [f64; 2] = [0.001, 1e6];
 
@@ -232,6 +260,10 @@ pub fn frame(rng: &mut Rng) -> ([f64; 3], [f64; 3]) {
 }
 
 fn plain(rng: &mut Rng, sides: [usize; 3]) -> Input {
+    with_field(rng, sides, field)
+}
+
+fn with_field(rng: &mut Rng, sides: [usize; 3], field: fn(&mut Rng, [usize; 3]) -> Vec<f64>) -> Input {
     let (origin, step) = frame(rng);
     let method = u32::from(!rng.one_in(6));
     let rounds = if rng.one_in(3) { rng.below(5) as u32 } else { 4 };
@@ -400,10 +432,22 @@ pub fn kept(folder: Option<&str>) -> Vec<Input> {
 /// From one size to the next; no common divisor with the number of sizes.
 const STRIDE: u64 = 1597;
 
-/// The file of this seed and number. Every fourth goes through all sizes in turn.
-pub fn file(seed: u64, index: u64, kept: &[Input]) -> Vec<u8> {
+fn drawn(seed: u64, index: u64) -> Rng {
     let mut rng = Rng(seed.wrapping_mul(0x2545f4914f6cdd1d) ^ index.wrapping_mul(0xd1342543de82ef95));
     rng.next();
+    rng
+}
+
+/// The file of this seed and number with samples near the threshold.
+pub fn near_file(seed: u64, index: u64) -> Vec<u8> {
+    let mut rng = drawn(seed, index);
+    let sides = common_size(&mut rng);
+    file_text(&with_field(&mut rng, sides, near_field)).into_bytes()
+}
+
+/// The file of this seed and number. Every fourth goes through all sizes in turn.
+pub fn file(seed: u64, index: u64, kept: &[Input]) -> Vec<u8> {
+    let mut rng = drawn(seed, index);
     if index % 4 == 0 {
         let sizes = all_sizes();
         let sides = sizes[(index / 4 * STRIDE % sizes.len() as u64) as usize];

@@ -1,18 +1,61 @@
 // The oracle's module `isosurface`: the stand-ins of docs/SCOPE.md, S16.4, shims, and the items taken out of the shown isosurface.rs.
 //
-// topology.rs asks this module for `lerp_alpha`. Everything written in this file is ours; the
+// topology.rs asks this module for `lerp_alpha`, which is the free fraction; a point's is `point_alpha`. Everything written in this file is ours; the
 // Rust's own text comes in by the `include!` at the end. Main.rs lists what is ours.
 
 use crate::constants::{self, EDGE_DELTAS, MT_TABLE, OWNED_TET_EDGES, REVERSE_EDGE, TET_EDGE_PAIRS};
 use crate::topology::{self, TopologyCase};
 use rayon::prelude::*;
 use std::collections::{HashMap, HashSet};
+use std::sync::atomic::{AtomicU64, AtomicU8, Ordering::Relaxed};
 
 // ---- The stand-ins of docs/SCOPE.md, S16.4 ----
 
-/// alpha is a/(a-b): no clamp, no rule for a small divisor.
+/// Which fraction is used: the stand-ins; the free one for points too, as before points were held; the Rust's own `lerp_alpha` for all.
+#[derive(Clone, Copy, PartialEq)]
+pub enum Rule {
+    Held,
+    Free,
+    Shown,
+}
+
+static RULE: AtomicU8 = AtomicU8::new(Rule::Held as u8);
+
+/// The rule from here on.
+pub fn follow(rule: Rule) {
+    RULE.store(rule as u8, Relaxed);
+}
+
+fn followed(rule: Rule) -> bool {
+    RULE.load(Relaxed) == rule as u8
+}
+
+/// The fraction of marks and flat holes is a/(a-b): no clamp, no rule for a small divisor.
 pub fn lerp_alpha(a: f64, b: f64) -> f64 {
+    if followed(Rule::Shown) {
+        return shown::lerp_alpha(a, b);
+    }
     a / (a - b)
+}
+
+/// How many fractions of points were held so far: below 0, and above 1.
+pub static HELD: [AtomicU64; 2] = [AtomicU64::new(0), AtomicU64::new(0)];
+
+/// The fraction of a point is a/(a-b), held: below 0 it is 0, above 1 it is 1, otherwise unchanged.
+pub fn point_alpha(a: f64, b: f64) -> f64 {
+    let t = lerp_alpha(a, b);
+    if !followed(Rule::Held) {
+        return t;
+    }
+    if t < 0.0 {
+        HELD[0].fetch_add(1, Relaxed);
+        return 0.0;
+    }
+    if 1.0 < t {
+        HELD[1].fetch_add(1, Relaxed);
+        return 1.0;
+    }
+    t
 }
 
 /// The frame and the sides, in the place of the Rust's lattice.
@@ -73,7 +116,7 @@ impl SampleLattice {
 fn edge_intersection_point(u: [i64; 3], v: [i64; 3], evaluated: &HashMap<[i64; 3], f64>, lattice: &SampleLattice) -> Option<[f64; 3]> {
     let a = evaluated.get(&u).copied().filter(|x| x.is_finite())?;
     let b = evaluated.get(&v).copied().filter(|x| x.is_finite())?;
-    Some(interpolate_points(lattice.ijk_to_world(u), lattice.ijk_to_world(v), lerp_alpha(a, b)))
+    Some(interpolate_points(lattice.ijk_to_world(u), lattice.ijk_to_world(v), point_alpha(a, b)))
 }
 
 /// Owners in site order; for each its live cluster vertices by number and their edges ascending;

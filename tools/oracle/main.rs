@@ -12,7 +12,8 @@
 //
 // OURS, all of it:
 //   The stand-ins of docs/SCOPE.md, S16.4 (isosurface.rs of this folder): the box of sites and their order (`keys`), the frame
-//     (SampleLattice), lerp_alpha as a/(a-b), edge_intersection_point, rollback_cluster_owners and its order,
+//     (SampleLattice), the fraction of marks and flat holes as a/(a-b), free (lerp_alpha), that of a point as the same, held
+//     between 0 and 1 (point_alpha), edge_intersection_point, rollback_cluster_owners and its order,
 //     and E as the number of times the marking loop marks.
 //   Changes made to the taken text: an end outside the box is passed over in the marking loop; `0..4` is `0..rounds`;
 //     lines that only note what is there (crossed += 1, seen.split, seen.owners, seen.made).
@@ -41,8 +42,12 @@ use std::io::{Read, Write};
 const USAGE: &str = "usage: oracle [--dump | --ply] [--unbounded] [FILE]
        oracle --volume DIGITS X Y Z [FILE]
        oracle --batch [--dump | --ply | --volume DIGITS X Y Z]
+       oracle --batch --dump --free
        oracle --generate SEED FROM COUNT [FOLDER]
+       oracle --near SEED FROM COUNT
        oracle --coverage SEED COUNT [FOLDER]
+       oracle --rules SEED COUNT [FOLDER]
+       oracle --rules --near SEED COUNT
        oracle --search SEED SECONDS FOLDER [NAME]
        oracle --topology MASK CLUSTER V0 .. V13
        oracle --topology-all SEED
@@ -50,6 +55,7 @@ const USAGE: &str = "usage: oracle [--dump | --ply] [--unbounded] [FILE]
        oracle --tet T A B C D
        oracle --inside V
        oracle --alpha A B
+       oracle --point-alpha A B
        oracle --mean X Y Z [X Y Z ..]
        oracle --tables
 a value is 16 lower-case hex digits, or - for a missing one; DIGITS is 0 to 6, and X Y Z are whole numbers of i64";
@@ -179,12 +185,42 @@ fn topology_all(seed: u64) {
     }
 }
 
+/// What the rule for the fraction changes in the first `count` files: our rules beside the free fraction for points, and beside the Rust's own.
+fn rules(count: u64, file: impl Fn(u64) -> Vec<u8>) {
+    let (mut built, mut points, mut moved, mut others, mut shown) = (0, 0, 0, 0, 0);
+    for index in 0..count {
+        let bytes = file(index);
+        let dumps = [isosurface::Rule::Held, isosurface::Rule::Free, isosurface::Rule::Shown].map(|rule| {
+            isosurface::follow(rule);
+            countfile::answer_text(&bytes, true, false)
+        });
+        isosurface::follow(isosurface::Rule::Held);
+        let apart = |dump: &str| -> (Vec<String>, Vec<String>) { dump.lines().map(String::from).partition(|line| line.starts_with("position ")) };
+        let [(held, rest), (free, free_rest), _] = [apart(&dumps[0]), apart(&dumps[1]), apart(&dumps[2])];
+        built += usize::from(dumps[0].starts_with("status=0\n"));
+        points += held.len();
+        moved += usize::from(held != free);
+        others += usize::from(rest != free_rest);
+        shown += usize::from(dumps[0] != dumps[2]);
+    }
+    let [below, above] = [0, 1].map(|k: usize| isosurface::HELD[k].load(std::sync::atomic::Ordering::Relaxed));
+    println!("files {count} built {built} positions {points}");
+    println!("fractions of points held: below 0 {below}, above 1 {above}");
+    println!("files with a position that the free fraction puts elsewhere {moved}");
+    println!("files in which the free fraction changes anything else {others}");
+    println!("files in which the Rust's own lerp_alpha changes anything {shown}");
+}
+
 fn main() {
     let args: Vec<String> = std::env::args().skip(1).collect();
     let words: Vec<&str> = args.iter().map(String::as_str).collect();
     match words.as_slice() {
         ["--batch"] => batch(|file| countfile::answer_text(file, false, false)),
         ["--batch", "--dump"] | ["--dump", "--batch"] => batch(|file| countfile::answer_text(file, true, false)),
+        ["--batch", "--dump", "--free"] => {
+            isosurface::follow(isosurface::Rule::Free);
+            batch(|file| countfile::answer_text(file, true, false))
+        }
         ["--batch", "--ply"] | ["--ply", "--batch"] => batch_ply(),
         ["--batch", "--volume", digits, x, y, z] | ["--volume", digits, x, y, z, "--batch"] => {
             let asked = asked([digits, x, y, z]);
@@ -201,6 +237,18 @@ fn main() {
             for index in from..from + number::<u64>(count) {
                 put_file(&mut out, &generate::file(number(seed), index, &kept));
             }
+        }
+        ["--near", seed, from, count] => {
+            let mut out = std::io::BufWriter::new(std::io::stdout().lock());
+            let from: u64 = number(from);
+            for index in from..from + number::<u64>(count) {
+                put_file(&mut out, &generate::near_file(number(seed), index));
+            }
+        }
+        ["--rules", "--near", seed, count] => rules(number(count), |index| generate::near_file(number(seed), index)),
+        ["--rules", seed, count, folder @ ..] if folder.len() < 2 => {
+            let kept = generate::kept(folder.first().copied());
+            rules(number(count), |index| generate::file(number(seed), index, &kept))
         }
         ["--coverage", seed, count, folder @ ..] if folder.len() < 2 => {
             generate::coverage(number(seed), number(count), &generate::kept(folder.first().copied()))
@@ -227,6 +275,7 @@ fn main() {
         }
         ["--inside", v] => println!("{}", u8::from(isosurface::inside(given(v)))),
         ["--alpha", a, b] => println!("{}", countfile::float_text(isosurface::lerp_alpha(given(a), given(b)))),
+        ["--point-alpha", a, b] => println!("{}", countfile::float_text(isosurface::point_alpha(given(a), given(b)))),
         ["--mean", values @ ..] if !values.is_empty() && values.len() % 3 == 0 => {
             let points: Vec<[f64; 3]> = values.chunks(3).map(|p| [given(p[0]), given(p[1]), given(p[2])]).collect();
             println!("{}", isosurface::mean(&points).map(countfile::float_text).join(" "));

@@ -1,4 +1,4 @@
-// Prints the bits of places, edge points and means at generated inputs: its stdout is that of tools/points_reference.py.
+// Prints the bits of places, edge points and means at generated inputs, and of edge points between samples near the threshold: its stdout is that of tools/points_reference.py.
 ghost use Prim.Native.Nat.{_≤_, _<_};
 
 // The next number of the generator.
@@ -135,12 +135,46 @@ fn run(x: u64, mode: u64) -> u64
     next(e)
 }
 
-fn main() {
-    let mut x: u64 = 0x9e37_79b9_7f4a_7c15;
+// A sample near the threshold: up to eight floats from -1.0e-9 either way.
+fn close(x: u64) -> f64 {
+    points::float_of_bits(0xbe11_2e0b_e826_d68d + (x >> 20) % 17)
+}
+
+// The point between two such samples, whose fraction is often far below 0 or above 1, in a frame of middling size.
+fn near(x: u64) -> u64 {
+    let a = after_three(x);
+    let c = next(after_three(a));
+    let d = next(c);
+    let e = next(d);
+    let frame = points::frame_of(three(x, 1), three(a, 2));
+    let r = points::edge_point(frame, site(c), site(d), close(d), close(e));
+    match r {
+        points::EdgePoint::Missing => show(0xffff),
+        points::EdgePoint::At(q) => show_point(q),
+    }
+    next(e)
+}
+
+fn frames(seed: u64) -> u64 {
+    let mut x = seed;
     let mut k: u32 = 0;
     while k < 100 {
         x = run(x, 0);
         x = run(x, 1);
         k += 1;
     }
+    x
+}
+
+fn edges(seed: u64) {
+    let mut x = seed;
+    let mut k: u32 = 0;
+    while k < 100 {
+        x = near(x);
+        k += 1;
+    }
+}
+
+fn main() {
+    edges(frames(0x9e37_79b9_7f4a_7c15));
 }

@@ -14,7 +14,7 @@ use Rattle.tables.specs.Edges.{corners, cornerOf, labelTo, du, dv, dw, areNeigh
 use Rattle.tables.specs.Tets.{tetLabel, tetCorner, tetPairs, tetPair, edgeOf, edgeIn}
 use Rattle.tables.specs.Cases.{mtTable, mtRow}
 use Rattle.tables.specs.FlatHoles.{holeOf, flatHoles, flatHole}
-use Rattle.samples.specs.Sides.{base, inside, finite, whenFinite, known, markFraction, pointFraction, crossing, isNear}
+use Rattle.samples.specs.Sides.{base, inside, finite, whenFinite, known, markFraction, hold, pointFraction, crossing, isNear}
 use Rattle.lattice.specs.declared.Sides.{Sides}
 use Rattle.lattice.specs.Sites.{sites, inBox, siteOf, uvwOf, step, ijkOf}
 use Rattle.lattice.specs.Across.{upward, downward, acrossAt, acrossOf}
@@ -39,7 +39,7 @@ use Rattle.stages.specs.Samples.{endBy, endsOf, edgesOf, clustersAt, poi
 
 -- `unfolding stagesKey` opens the definition, so that a build computes
 unfoldable pub stagesKey : Unit {0}
-unfolding lt neg add sub mul div ofInt ofBits trailingZeros bit each any sum keep count joined digit isSet mask corners cornerOf du dv dw areNeighbours neighbourMask labelTo tetLabel tetCorner tetPairs tetPair edgeOf edgeIn flat sidesOf mtTable mtRow holeOf flatHoles flatHole inside finite whenFinite known markFraction pointFraction crossing isNear sites inBox siteOf uvwOf step ijkOf upward downward acrossAt acrossOf at caseOf tetOk caseNo onEach tetTris cellTris none okAt sideAt vertexAt cornersOf vertexIn resolved proper emitted siteTris slab march runs touches markedBy marked maskAt masksOf crossedBy isCrossed crossedCount lowBit found remTurn frTurn compTurn walk first componentsIn components collapses collapsesAt pairsCollapse rowFlat isFlat kindOf singles topology.caseOf topologyOf reach owned fresh nobody held keys several apart filled siteVertices candidates numbers holds find tableOf bookOf fieldOf meshOf isCrowded crowdedSides some endOf placeBy splitBy crowdedPairs split onCrowded crowdedTris clusterOf owns owners isIn rolled retired retire liveAt regrown rollback given rounds roundsDone built endBy endsOf edgesOf clustersAt pointBy boxOf frameOf along position interpolate edgePoint meanOf positionsOf placeOf pointsOf positionAt
+unfolding lt neg add sub mul div ofInt ofBits trailingZeros bit each any sum keep count joined digit isSet mask corners cornerOf du dv dw areNeighbours neighbourMask labelTo tetLabel tetCorner tetPairs tetPair edgeOf edgeIn flat sidesOf mtTable mtRow holeOf flatHoles flatHole inside finite whenFinite known markFraction hold pointFraction crossing isNear sites inBox siteOf uvwOf step ijkOf upward downward acrossAt acrossOf at caseOf tetOk caseNo onEach tetTris cellTris none okAt sideAt vertexAt cornersOf vertexIn resolved proper emitted siteTris slab march runs touches markedBy marked maskAt masksOf crossedBy isCrossed crossedCount lowBit found remTurn frTurn compTurn walk first componentsIn components collapses collapsesAt pairsCollapse rowFlat isFlat kindOf singles topology.caseOf topologyOf reach owned fresh nobody held keys several apart filled siteVertices candidates numbers holds find tableOf bookOf fieldOf meshOf isCrowded crowdedSides some endOf placeBy splitBy crowdedPairs split onCrowded crowdedTris clusterOf owns owners isIn rolled retired retire liveAt regrown rollback given rounds roundsDone built endBy endsOf edgesOf clustersAt pointBy boxOf frameOf along position interpolate edgePoint meanOf positionsOf placeOf pointsOf positionAt
 stagesKey = tt
 
 -- numbers by their bits

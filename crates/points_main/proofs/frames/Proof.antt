@@ -1,15 +1,15 @@
--- `points_main::main` meets its contract: it ends, and calls as it must. Assumes nothing.
+-- `points_main::frames` meets its contract: it ends, and calls as it must. Assumes nothing.
 use Prim.Native.Nat.{_≤_, _-_}
 use native.Mathlib.Omega.{arith}
 use borrow.Author.Needs.{needs}
-use Rattle.points_main.proofs.main.Statement.{statement}
-use Rattle.points_main.proofs.main.Tie as tie
+use Rattle.points_main.proofs.frames.Statement.{statement}
+use Rattle.points_main.proofs.frames.Tie as tie
 
 abbrev Inv-loop : tie.InvT-loop
-Inv-loop x₀ k₀ x k = k ≤ 100
+Inv-loop seed x₀ k₀ x k = k ≤ 100
 
 abbrev μ-loop : tie.MeasureT-loop
-μ-loop x₀ k₀ x k = 100 - k
+μ-loop seed x₀ k₀ x k = 100 - k
 
 loop-holds : tie.Need-loop-holds Inv-loop μ-loop
 loop-holds c = omega arith
@@ -32,8 +32,8 @@ loop-again c = omega arith
 returns : tie.Need-returns Inv-loop μ-loop
 returns c = search needs
 
-pub main-spec : {M : Type 1} → statement M
-main-spec =
+pub frames-spec : {M : Type 1} → statement M
+frames-spec =
     tie.close
     (tie.spec
     Inv-loop
