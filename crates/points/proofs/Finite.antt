@@ -8,7 +8,7 @@ use mathlib.Core.List.{List, [], _∷_}
 use lib.IntN.{pos}
 use lib.Dec.{T, lit≤, lit<}
 use lib.ListN.{length}
-use lib.Ieee.{Float, fin, binary64, low, round, ofInt, ofBits, fits}
+use lib.Ieee.{Float, binary64, low, round, ofInt, ofBits, fits}
 use Rattle.samples.specs.Sides.{finite, inside, pointFraction}
 use Rattle.samples.proofs.Held.{one-is}
 use Rattle.lattice.specs.declared.Ijk.{Ijk}
@@ -23,7 +23,7 @@ use Rattle.points.specs.Positions.{position}
 use Rattle.points.specs.Limits.{frameOk}
 use Rattle.points.specs.EdgePoints.{interpolate, edgePoint}
 use Rattle.points.specs.Means.{zeros, plus, times, total, share, meanOf, sumOf, meanSum}
-use Rattle.points.specs.Finite.{finitePoint, hasFinitePoint, Low, OnEdge, AllOnEdges, end, next}
+use Rattle.points.specs.Finite.{finitePoint, hasFinitePoint, Low, OnEdge, firstEnd, secondEnd, AllOnEdges, end, next}
 use Rattle.points.proofs.Sizes.{Under, under-more, under-finite, add-under, mul-under}
 use Rattle.points.proofs.Casts.{ijk-small}
 use Rattle.points.proofs.Limits.{PointUnder, position-under, interpolate-under}
@@ -74,8 +74,8 @@ known f a b p q c e = go (finite p) (finite q) refl refl e
 
 pub edge-under : (f : Frame) (h : Float) (c : Point) → frameOk f ≡ true → OnEdge f h c → PointUnder c 33
 edge-under f h c ok o =
-    let a = ijkOf (o .a .u) (o .a .v) (o .a .w) in
-    let b = ijkOf (o .b .u) (o .b .v) (o .b .w) in
+    let a = firstEnd o in
+    let b = secondEnd o in
     let k = known f a b (o .p) (o .q) c (o .is) in
     subst (λ (r : Point). PointUnder r 33) (k .is)
     (interpolate-under (position f a) (position f b) (pointFraction (o .p) (o .q)) 0 (lit≤ tt)

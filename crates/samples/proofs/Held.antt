@@ -1,10 +1,9 @@
 -- A held fraction: it lies from 0 to 1, is the free one where that does, and is on the same side of 0.5. So whether a crossing is near does not depend on which is compared. Assumes nothing.
 use Prim.Native.Nat.{ℕ, _+_, _*_, _≤_, _<_}
 use native.Mathlib.Omega.{arith}
-use mathlib.Core.Path.{_≡_, refl, sym, ap, _∙_}
-use mathlib.Core.Bool.{Bool, true, false, Bool·beq, cond, true≢false, false≢true}
+use mathlib.Core.Path.{_≡_, refl, sym}
+use mathlib.Core.Bool.{Bool, true, false, Bool·beq, cond, false≢true}
 use lib.IntN.{pos, negsuc}
-use lib.Dec.{T, ltb}
 use lib.Ieee.{Float, nan, inf, fin, up, down, lt, le, eq, ofBits, isNan}
 use lib.Ieee.Fits.{down-pos}
 use borrow.Author.Tests.{ltb-true, lt-ltb, le-ltb}
