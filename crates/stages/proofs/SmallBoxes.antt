@@ -301,6 +301,37 @@ plain-is : answer plain ≡ record {
 unfolding plain answer answerOf stagesKey
 plain-is = refl
 
+-- both samples negative, one inside by a hair: the fraction is held, and the vertex stands at a site: 2 x 1 x 1, 1 vertices, 0 triangles, 0 split, rounds done 0
+unfoldable waterline : Input
+waterline = record {
+  sides = record { nu = 2; nv = 1; nw = 1 };
+  cluster = true;
+  rounds = 4;
+  frame = frame 0x0000000000000000 0x0000000000000000 0x0000000000000000 0x3FF0000000000000 0x3FF0000000000000 0x3FF0000000000000;
+  samples = words
+      (0xBE112E0BE826D695 ∷ 0xBE112E0BE826D696 ∷ []);
+}
+
+waterline-is : answer waterline ≡ record {
+  crossed = 1;
+  masks =
+      (1 ∷ 0 ∷ []);
+  clusters =
+      (((0 ∷ []) ∷ []) ∷ [] ∷ []);
+  split = 0;
+  rounds = 0;
+  table =
+      (0 ∷ none ∷ none ∷ none ∷ none ∷ none ∷ none ∷ none ∷ none ∷ none ∷ none ∷ none ∷ none ∷ none ∷ []);
+  book =
+      (0 ∷ 1 ∷ 1 ∷ 0 ∷ []);
+  triangles =
+      ([]);
+  positions = words
+      (0x0000000000000000 ∷ 0x0000000000000000 ∷ 0x0000000000000000 ∷ []);
+}
+unfolding waterline answer answerOf stagesKey
+waterline-is = refl
+
 -- an owner is rolled back that is the third corner of a triangle on a crowded pair only: 3 x 3 x 3, 26 vertices, 35 triangles, 2 split, rounds done 1
 unfoldable third : Input
 third = record {
