@@ -1,4 +1,4 @@
--- What holds of the lists that a build leaves. The triangle list is in whole threes, and every position is finite. Demand 3: every crossed edge is named once by the edge table, the held counts of the vertex book add up to the crossings,
+-- What holds of the lists that a build leaves. The triangle list is in whole threes, and every position is finite, within 2 ^ 47. Demand 3: every crossed edge is named once by the edge table, the held counts of the vertex book add up to the crossings,
 -- and as many triangles of the triangle list run from a vertex to another as back. Assumes nothing.
 use mathlib.Core.Path.{_≡_, sym, ap, _∙_, subst}
 use mathlib.Core.Bool.{Bool, true}
@@ -20,6 +20,8 @@ use Rattle.lattice.specs.Sites.{SidesFit, sites}
 use Rattle.marks.specs.Marks.{crossedCount, isCrossed}
 use Rattle.march.specs.March.{none}
 use Rattle.march.specs.Runs.{runs}
+use Rattle.points.specs.Finite.{Under}
+use Rattle.points.proofs.Sizes.{under-finite}
 use Rattle.stages.specs.Meshes.{bookOf, meshOf, tableOf}
 use Rattle.stages.specs.Rounds.{built}
 use Rattle.stages.specs.Samples.{boxOf, AllFinite, AllDouble}
@@ -27,7 +29,7 @@ use Rattle.stages.specs.Stages.{Held}
 use Rattle.stages.proofs.Book.{book-length}
 use Rattle.stages.proofs.Demand.{book-crossed, crossed-held, table-names}
 use Rattle.stages.proofs.Stages.{built-stage}
-use Rattle.stages.proofs.Positions.{positions-finite}
+use Rattle.stages.proofs.Positions.{positions-under}
 use Rattle.stages.proofs.Table.{table-length}
 use Rattle.build.specs.declared.Answer.{Answer}
 use Rattle.build.specs.Answer.{Order, Lists, doneAnswer, orderBook, orderBox, orderPositions, orderTable, orderTriangles, orderVertices}
@@ -56,20 +58,25 @@ module _ (o : Order) (l l′ : Lists) (z : Answer) (D : Left o l l′ z) where
   left-threes =
       ap (λ (y : List ℕ). flat (trisOf y)) left-triangles ∙ ap flat (tris-flat (meshOf (orderBox o) (orderVertices o))) ∙ sym left-triangles
 
-  -- EVERY POSITION THAT A BUILD LEAVES IS FINITE, for all samples of 64 bits
-  pub left-finite : AllDouble (o .samples) → (i : ℕ) → i < 3 * z .vertices → finite (getD (l′ .positions) i nan) ≡ true
+  -- EVERY POSITION THAT A BUILD LEAVES IS AT MOST 2 ^ 47 IN SIZE ON EACH AXIS, for all samples of 64 bits
+  pub left-within : AllDouble (o .samples) → (i : ℕ) → i < 3 * z .vertices → Under (getD (l′ .positions) i nan) 47
   unfolding orderVertices orderBox doneAnswer
-  left-finite F i h =
+  left-within F i h =
       let g = order-granted o (D .granted) in
       let b = boxOf (o .sides) (o .samples) (o .threshold) (eqb (o .method) 1) in
       let v : z .vertices ≡ length (orderVertices o) = ap (λ (y : Answer). y .vertices) done in
       let low : i < length (orderPositions o) = omega (arith, positions-three o (D .granted)) in
       let e : l′ .positions ≡ orderPositions o ++ drop (length (orderPositions o)) (l .positions) =
       ap (λ (y : Lists). y .positions) (D .built .after) ∙ is-written o (D .granted) (orderPositions o) (l .positions) in
-      ap (λ (y : List Float). finite (getD y i nan)) e
-      ∙ ap finite (List·getD-append (orderPositions o) (drop (length (orderPositions o)) (l .positions)) nan i low)
-      ∙ all-member nan (λ x. finite x ≡ true) (orderPositions o)
-      (positions-finite (o .frame) (o .sides) (o .samples) (o .threshold) (g .frame) (g .fit) F (eqb (o .method) 1) (built-stage b (o .rounds))) i low
+      let m : getD (l′ .positions) i nan ≡ getD (orderPositions o) i nan =
+      ap (λ (y : List Float). getD y i nan) e ∙ List·getD-append (orderPositions o) (drop (length (orderPositions o)) (l .positions)) nan i low in
+      subst (λ (x : Float). Under x 47) (sym m)
+      (all-member nan (λ x. Under x 47) (orderPositions o)
+      (positions-under (o .frame) (o .sides) (o .samples) (o .threshold) (g .frame) (g .fit) F (eqb (o .method) 1) (built-stage b (o .rounds))) i low)
+
+  -- AND FINITE
+  pub left-finite : AllDouble (o .samples) → (i : ℕ) → i < 3 * z .vertices → finite (getD (l′ .positions) i nan) ≡ true
+  left-finite F i h = under-finite (getD (l′ .positions) i nan) 47 (left-within F i h)
 
 -- ---- where all samples are finite
 

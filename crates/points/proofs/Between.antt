@@ -18,14 +18,14 @@ use Rattle.points.specs.declared.Frame.{Frame}
 use Rattle.points.specs.EdgePoints.{towards, interpolate}
 use Rattle.points.specs.Positions.{along, position}
 use Rattle.points.specs.Limits.{frameOk}
-use Rattle.points.specs.Finite.{OnEdge, firstEnd, secondEnd}
+use Rattle.points.specs.Finite.{Under, PointUnder, OnEdge, firstEnd, secondEnd}
 use Rattle.points.specs.Between.{between, pointBetween, wholeWay}
-use Rattle.points.proofs.Sizes.{Under, under-finite, sub-under, mul-under}
+use Rattle.points.proofs.Sizes.{under-finite, sub-under, mul-under}
 use Rattle.points.proofs.Signed.{round-zero, round-order, self-round, add-mono, add-above, add-below}
 use Rattle.points.proofs.Fraction.{Part, part, part-under, held-unit}
 use Rattle.points.proofs.Order.{sides-differ}
 use Rattle.points.proofs.Casts.{ijk-small}
-use Rattle.points.proofs.Limits.{PointUnder, position-under}
+use Rattle.points.proofs.Limits.{position-under}
 use Rattle.points.proofs.Finite.{known}
 
 between-up : (a x b : Float) → T (le a x) → T (le x b) → between a x b ≡ true

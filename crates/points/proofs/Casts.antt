@@ -17,7 +17,8 @@ use Rattle.lattice.proofs.Owner.{rd, read-back}
 use Rattle.points.specs.declared.Point.{Point}
 use Rattle.points.specs.declared.Frame.{Frame}
 use Rattle.points.specs.Positions.{along, position}
-use Rattle.points.proofs.Sizes.{Under, int-under, negint-under}
+use Rattle.points.specs.Finite.{Under}
+use Rattle.points.proofs.Sizes.{int-under, negint-under}
 
 -- at most 64 in size
 abbrev pub Small : ℤ → Type 0

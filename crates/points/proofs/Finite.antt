@@ -23,10 +23,10 @@ use Rattle.points.specs.Positions.{position}
 use Rattle.points.specs.Limits.{frameOk}
 use Rattle.points.specs.EdgePoints.{interpolate, edgePoint}
 use Rattle.points.specs.Means.{zeros, plus, times, total, share, meanOf, sumOf, meanSum}
-use Rattle.points.specs.Finite.{finitePoint, hasFinitePoint, Low, OnEdge, firstEnd, secondEnd, AllOnEdges, end, next}
-use Rattle.points.proofs.Sizes.{Under, under-more, under-finite, add-under, mul-under}
+use Rattle.points.specs.Finite.{Under, PointUnder, finitePoint, hasFinitePoint, Low, OnEdge, firstEnd, secondEnd, AllOnEdges, end, next}
+use Rattle.points.proofs.Sizes.{under-more, under-finite, add-under, mul-under}
 use Rattle.points.proofs.Casts.{ijk-small}
-use Rattle.points.proofs.Limits.{PointUnder, position-under, interpolate-under}
+use Rattle.points.proofs.Limits.{position-under, interpolate-under}
 use Rattle.points.proofs.Gaps.{Units, round-least, fraction-under}
 use Rattle.points.proofs.Fraction.{held-under}
 use Rattle.points.proofs.Order.{sides-differ}
@@ -35,6 +35,9 @@ use Rattle.points.proofs.Means.{mean-sum}
 pub under-finite-point : (p : Point) (k : ℕ) → PointUnder p k → finitePoint p ≡ true
 unfolding finitePoint
 under-finite-point p k h = rw (under-finite (p .x) k (h .x), under-finite (p .y) k (h .y), under-finite (p .z) k (h .z))
+
+point-more : (p : Point) (j k : ℕ) → j ≤ k → PointUnder p j → PointUnder p k
+point-more p j k g h = record { x = under-more (p .x) j k g (h .x); y = under-more (p .y) j k g (h .y); z = under-more (p .z) j k g (h .z) }
 
 -- the sites of a box are low
 pub box-low : (n : Sides) (p : Uvw) → SidesFit n → InBox n p → Low p
@@ -141,7 +144,7 @@ mean-under [] h g a = absurd (none h)
   where
     none : 1 ≤ 0 → ⊥
     none h = omega arith
-mean-under (p ∷ []) h g (also q a) = record { x = under-more (p .x) 33 34 (lit≤ tt) (q .x); y = under-more (p .y) 33 34 (lit≤ tt) (q .y); z = under-more (p .z) 33 34 (lit≤ tt) (q .z) }
+mean-under (p ∷ []) h g (also q a) = point-more p 33 34 (lit≤ tt) q
 mean-under (p ∷ q ∷ ps) h g a =
     let l = suc (suc (length ps)) in
     let e : 33 + l + 0 ≡ 33 + l = omega arith in
@@ -152,9 +155,12 @@ all-under : (f : Frame) (h : Float) (cs : List Point) → frameOk f ≡ true →
 all-under f h [] ok end = stop
 all-under f h (c ∷ cs) ok (next o r) = also (edge-under f h c ok o) (all-under f h cs ok r)
 
+-- a mean of up to fourteen points of crossed edges
+pub mean-within : (f : Frame) (h : Float) (cs : List Point) → frameOk f ≡ true → 1 ≤ length cs → length cs ≤ 14 → AllOnEdges f h cs → PointUnder (meanOf cs) 47
+mean-within f h cs ok some few o = point-more (meanOf cs) (33 + length cs) 47 (omega arith) (mean-under cs some (omega arith) (all-under f h cs ok o))
+
 pub mean-finite : (f : Frame) (h : Float) (cs : List Point) → frameOk f ≡ true → 1 ≤ length cs → length cs ≤ 14 → AllOnEdges f h cs → finitePoint (meanOf cs) ≡ true
-mean-finite f h cs ok some few o =
-    under-finite-point (meanOf cs) (33 + length cs) (mean-under cs some (omega arith) (all-under f h cs ok o))
+mean-finite f h cs ok some few o = under-finite-point (meanOf cs) 47 (mean-within f h cs ok some few o)
 
 -- the same of what `mean` answers once these points are taken in
 pub mean-sum-finite : (f : Frame) (h : Float) (cs : List Point) → frameOk f ≡ true → 1 ≤ length cs → length cs ≤ 14 → AllOnEdges f h cs → finitePoint (meanSum (sumOf cs)) ≡ true

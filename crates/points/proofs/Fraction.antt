@@ -16,7 +16,7 @@ use Rattle.samples.specs.Sides.{nought, one, finite, markFraction, pointFractio
 use Rattle.samples.proofs.Held.{nought-is, one-is, hold-range}
 use Rattle.laws.proofs.Bools.{true-T}
 use Rattle.laws.proofs.Floats.{debt, Most, le-most}
-use Rattle.points.proofs.Sizes.{Under}
+use Rattle.points.specs.Finite.{Under}
 use Rattle.points.proofs.Gaps.{Units, units-of, gap-up, gap-down, Least, round-least, fraction-under}
 
 -- ---- the power of two at or below a number

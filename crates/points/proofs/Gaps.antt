@@ -14,8 +14,9 @@ use lib.Ieee.Digits.{back}
 use lib.Ieee.Fits.{down-pos, up-pos, two, two-le-pos}
 use lib.Ieee.Exact.{HasValue, round-exact}
 use lib.Ieee.Order.{round-mono}
+use Rattle.points.specs.Finite.{Under}
 use Rattle.points.proofs.Rounding.{neg-round, plus, plus-round}
-use Rattle.points.proofs.Sizes.{Under, round-bound, or-le}
+use Rattle.points.proofs.Sizes.{round-bound, or-le}
 
 -- ---- a value in units of the format's smallest: m * 2 ^ shift of them
 pub record Units (f : Format) (m : ℕ) (e : ℤ) : Type 0 where

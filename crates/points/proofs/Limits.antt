@@ -15,7 +15,8 @@ use Rattle.points.specs.declared.Frame.{Frame}
 use Rattle.points.specs.Positions.{along, position}
 use Rattle.points.specs.Limits.{billion, million, thousandth, originOk, stepOk, originsOk, stepsOk, frameOk}
 use Rattle.points.specs.EdgePoints.{towards, interpolate}
-use Rattle.points.proofs.Sizes.{Under, under-more, add-under, sub-under, mul-under, or-le}
+use Rattle.points.specs.Finite.{Under, PointUnder}
+use Rattle.points.proofs.Sizes.{under-more, add-under, sub-under, mul-under, or-le}
 use Rattle.points.proofs.Casts.{Small, small-under, SmallIjk}
 
 -- the limits as m * 2 ^ e
@@ -94,11 +95,6 @@ unfolding along
 along-under origin step i o s h =
     add-under origin (mul binary64 (ofInt binary64 i) step) 30 (lit≤ tt) (origin-under origin o)
     (under-more (mul binary64 (ofInt binary64 i) step) 26 30 (lit≤ tt) (mul-under (ofInt binary64 i) step 6 20 (lit≤ tt) (small-under i h) (step-under step s)))
-
-pub record PointUnder (p : Point) (k : ℕ) : Type 0 where
-  pub x : Under (p .x) k
-  pub y : Under (p .y) k
-  pub z : Under (p .z) k
 
 pub record AllThree (ok : Float → Bool) (p : Point) : Type 0 where
   pub x : ok (p .x) ≡ true

@@ -1,4 +1,4 @@
--- How large a result can be: `Under x k` says that x is finite and at most 2 ^ k in size; each operation's result from its operands. Assumes nothing.
+-- How large a result can be, each operation's from its operands: `Under x k` says that x is finite and at most 2 ^ k in size. Assumes nothing.
 use Prim.Native.Nat.{ℕ, suc, _+_, _-_, _*_, _^_, _≤_, _<_}
 use native.Mathlib.Nat.{le-trans, le-of-eq, mul-comm, mul-assoc, mul-right-comm, mul-mul-mul-comm, mul-le-mul, mul-le-mul-right, le-of-mul-le-mul-right, mul-pos, mul-one, one-mul, pow-suc}
 use native.Mathlib.Omega.{arith}
@@ -12,12 +12,8 @@ use lib.Ieee.Fits.{down-pos}
 use lib.Ieee.Exact.{HasValue, round-exact}
 use lib.Ieee.Order.{round-mono}
 use Rattle.samples.specs.Sides.{finite}
+use Rattle.points.specs.Finite.{Under}
 use Rattle.points.proofs.Rounding.{neg-round, plus, plus-round}
-
-abbrev pub Under : Float → ℕ → Type 0
-Under nan k = ⊥
-Under (inf s) k = ⊥
-Under (fin s m e) k = m * up e ≤ 2 ^ k * down e
 
 pub under-neg : (x : Float) (k : ℕ) → Under x k → Under (neg x) k
 unfolding neg

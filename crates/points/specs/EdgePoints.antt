@@ -1,4 +1,4 @@
--- The point on an edge: from the marked site towards the neighbour by the fraction of a point; missing where a sample is not finite. Assumes nothing.
+-- The point on an edge: from the marked site towards the neighbour by the fraction of a point, which is held between 0 and 1; missing where a sample is not finite. Assumes nothing.
 use mathlib.Core.Bool.{_&&_, cond}
 use lib.Ieee.{Float, binary64, add, mul, sub}
 use Rattle.samples.specs.Sides.{finite, pointFraction}

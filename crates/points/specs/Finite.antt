@@ -1,10 +1,10 @@
--- What the theorems of finite points speak of: a finite point, and a point that the build makes on a crossed edge. Assumes nothing.
+-- What the theorems of finite points speak of: a finite point, how large one is, and a point that the build makes on a crossed edge. Assumes nothing.
 use mathlib.Core.Path.{_≡_}
 use mathlib.Core.Bool.{Bool, false, _&&_, Bool·beq}
 use mathlib.Core.List.{List, [], _∷_}
-use Prim.Native.Nat.{_<_}
+use Prim.Native.Nat.{ℕ, _*_, _^_, _≤_, _<_}
 use lib.Dec.{T}
-use lib.Ieee.{Float, binary64, fits}
+use lib.Ieee.{Float, nan, inf, fin, binary64, up, down, fits}
 use Rattle.samples.specs.Sides.{inside, finite}
 use Rattle.lattice.specs.declared.Ijk.{Ijk}
 use Rattle.lattice.specs.declared.Uvw.{Uvw}
@@ -17,6 +17,18 @@ use Rattle.points.specs.EdgePoints.{edgePoint}
 
 unfoldable pub finitePoint : Point → Bool
 finitePoint p = finite (p .x) && finite (p .y) && finite (p .z)
+
+-- x is finite, and at most 2 ^ k in size
+abbrev pub Under : Float → ℕ → Type 0
+Under nan k = ⊥
+Under (inf s) k = ⊥
+Under (fin s m e) k = m * up e ≤ 2 ^ k * down e
+
+-- on each axis
+pub record PointUnder (p : Point) (k : ℕ) : Type 0 where
+  pub x : Under (p .x) k
+  pub y : Under (p .y) k
+  pub z : Under (p .z) k
 
 -- there is a point, and it is finite
 unfoldable pub hasFinitePoint : EdgePoint → Bool

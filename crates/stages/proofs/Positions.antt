@@ -1,6 +1,6 @@
 -- Every position of every stage of a build is finite, whatever the samples are: a vertex has some edges, and each of them is crossed and has finite ends. Assumes nothing.
 use mathlib.Core.Path.{_≡_, refl, sym, ap, _∙_}
-use mathlib.Core.Bool.{Bool, true, false, _&&_, Bool·beq, cond, false≢true}
+use mathlib.Core.Bool.{Bool, true, false, Bool·beq, cond, false≢true}
 use mathlib.Core.List.{List, [], _∷_, map}
 use Prim.Native.Nat.{ℕ, suc, _≤_, _<_}
 use native.Mathlib.Omega.{arith}
@@ -10,7 +10,7 @@ use lib.Ieee.{Float}
 use Rattle.laws.specs.Lists.{keep, All}
 use Rattle.laws.proofs.Bools.{and-apart, beq-sym}
 use Rattle.laws.proofs.Ranges.{each-all, each-one-length}
-use Rattle.laws.proofs.Lists.{keep-le, keep-pass}
+use Rattle.laws.proofs.Lists.{keep-le, keep-pass, all-map}
 use Rattle.samples.specs.declared.Crossing.{Crossing}
 use Rattle.samples.specs.declared.Crossing.the-variants.{SameSide, At}
 use Rattle.samples.specs.Sides.{finite, inside, markFraction, crossing, near}
@@ -27,9 +27,10 @@ use Rattle.points.specs.declared.Frame.{Frame}
 use Rattle.points.specs.declared.EdgePoint.the-variants as on
 use Rattle.points.specs.Limits.{frameOk}
 use Rattle.points.specs.Means.{meanOf}
-use Rattle.points.specs.Finite.{finitePoint, OnEdge, AllOnEdges}
+use Rattle.points.specs.Finite.{Under, PointUnder, OnEdge, AllOnEdges}
 use Rattle.points.specs.Finite as fine
-use Rattle.points.proofs.Finite.{box-low, edge-at, mean-finite}
+use Rattle.points.proofs.Sizes.{under-finite}
+use Rattle.points.proofs.Finite.{box-low, edge-at, mean-within}
 use Rattle.stages.specs.Boxes.{Box}
 use Rattle.stages.specs.Vertices.{Vertex, fresh, held, apart, filled, siteVertices, candidates}
 use Rattle.stages.specs.Meshes.{numbers, positionsOf}
@@ -161,25 +162,27 @@ module _ (f : Frame) (n : Sides) (S : List Float) (h : Float) (ok : frameOk f �
       let r = points-on s es hs (m .1) (p .1) in
       rw (g .is) (fine.next (g .on-edge) (r .0), ap suc (r .1))
 
-  vertex-finite : (cluster : Bool) (x : Vertex) → Proper (boxOf n S h cluster) (markAt n S h) x → Pointed (boxOf n S h cluster) x
-      → finitePoint (meanOf (pointsOf f n S (x .site) (x .edges))) ≡ true
+  vertex-under : (cluster : Bool) (x : Vertex) → Proper (boxOf n S h cluster) (markAt n S h) x → Pointed (boxOf n S h cluster) x
+      → PointUnder (meanOf (pointsOf f n S (x .site) (x .edges))) 47
   unfolding boxOf
-  vertex-finite cluster x k p =
+  vertex-under cluster x k p =
       let r = points-on (x .site) (x .edges) (k .low) (all-in (λ e. marked n S h (x .site) e ≡ true) (x .edges) (λ e i. set-marked n S h (x .site) e (k .marks e i))) (p .points) in
       let l = r .1 in
-      mean-finite f h (pointsOf f n S (x .site) (x .edges)) ok (omega (arith, filled-some (x .edges) (p .some))) (omega (arith, ascending-few (x .edges) (k .order))) (r .0)
+      mean-within f h (pointsOf f n S (x .site) (x .edges)) ok (omega (arith, filled-some (x .edges) (p .some))) (omega (arith, ascending-few (x .edges) (k .order))) (r .0)
 
-  all-finite : (cluster : Bool) (vs : List Vertex) → All (Proper (boxOf n S h cluster) (markAt n S h)) vs → All (Pointed (boxOf n S h cluster)) vs
-      → All (λ x. finite x ≡ true) (positionsOf (positionAt f n S) vs)
-  unfolding All positionsOf positionAt finitePoint
-  all-finite cluster [] k p = tt
-  all-finite cluster (x ∷ vs) k p =
-      let c = meanOf (pointsOf f n S (x .site) (x .edges)) in
-      let q = and-apart (finite (c .x) && finite (c .y)) (finite (c .z)) (vertex-finite cluster x (k .0) (p .0)) in
-      let r = and-apart (finite (c .x)) (finite (c .y)) (q .0) in
-      (r .0, (r .1, (q .1, all-finite cluster vs (k .1) (p .1))))
+  all-under : (cluster : Bool) (vs : List Vertex) → All (Proper (boxOf n S h cluster) (markAt n S h)) vs → All (Pointed (boxOf n S h cluster)) vs
+      → All (λ x. Under x 47) (positionsOf (positionAt f n S) vs)
+  unfolding All positionsOf positionAt
+  all-under cluster [] k p = tt
+  all-under cluster (x ∷ vs) k p =
+      let c = vertex-under cluster x (k .0) (p .0) in
+      (c .x, (c .y, (c .z, all-under cluster vs (k .1) (p .1))))
 
-  -- EVERY POSITION OF EVERY STAGE IS FINITE
+  -- EVERY POSITION OF EVERY STAGE IS AT MOST 2 ^ 47 IN SIZE ON EACH AXIS
+  pub positions-under : (cluster : Bool) {vs : List Vertex} → Stage (boxOf n S h cluster) vs → All (λ x. Under x 47) (positionsOf (positionAt f n S) vs)
+  positions-under cluster {vs} st =
+      all-under cluster vs (stage-proper (boxOf n S h cluster) (markAt n S h) (sample-clustered n S h fit cluster) st) (stage-pointed (boxOf n S h cluster) st)
+
+  -- SO EVERY ONE IS FINITE
   pub positions-finite : (cluster : Bool) {vs : List Vertex} → Stage (boxOf n S h cluster) vs → All (λ x. finite x ≡ true) (positionsOf (positionAt f n S) vs)
-  positions-finite cluster {vs} st =
-      all-finite cluster vs (stage-proper (boxOf n S h cluster) (markAt n S h) (sample-clustered n S h fit cluster) st) (stage-pointed (boxOf n S h cluster) st)
+  positions-finite cluster {vs} st = all-map (λ x. Under x 47) (λ x. finite x ≡ true) (λ x. under-finite x 47) (positionsOf (positionAt f n S) vs) (positions-under cluster st)
