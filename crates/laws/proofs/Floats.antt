@@ -1,6 +1,6 @@
 -- The order of finite floats as one of whole numbers: what each has above zero and below it, over one denominator. Assumes nothing.
 use Prim.Native.Nat.{ℕ, _+_, _*_, _≤_, _<_}
-use native.Mathlib.Nat.{zero-mul, lt-irrefl, lt-of-lt-of-le, le-of-lt, le-of-eq, eq-or-lt-of-le}
+use native.Mathlib.Nat.{zero-mul, add-mul, mul-right-comm, mul-le-mul-right, mul-lt-mul-of-pos-right, lt-of-mul-lt-mul-right, lt-irrefl, lt-of-lt-of-le, le-of-lt, le-of-eq, eq-or-lt-of-le}
 use native.Mathlib.Omega.{arith}
 use mathlib.Core.Path.{_≡_, refl, sym, _∙_}
 use mathlib.Core.Logic.{inl, inr}
@@ -112,6 +112,26 @@ most-le s m e t n d h =
     or-r : (p q : Bool) → T q → T (p || q)
     or-r true q h = tt
     or-r false q h = h
+
+-- equal values, both ways
+pub eq-most : (s : Bool) (m : ℕ) (e : ℤ) (t : Bool) (n : ℕ) (d : ℤ) → T (eq (fin s m e) (fin t n d))
+    → Most s (m * up e) (down e) t (n * up d) (down d) × Most t (n * up d) (down d) s (m * up e) (down e)
+unfolding eq
+eq-most s m e t n d h =
+    let i = level-same s t (m * up e * down d) (n * up d * down e) h in
+    rw (← gain-times s (m * up e) (down d), ← gain-times t (n * up d) (down e), ← debt-times s (m * up e) (down d), ← debt-times t (n * up d) (down e)) (le-of-eq i, le-of-eq (sym i))
+
+-- ±x / e ≤ ±y / d < ±k / g
+pub most-less : (s : Bool) (x e : ℕ) (t : Bool) (y d : ℕ) (u : Bool) (k g : ℕ) → 0 < e → Most s x e t y d → Less t y d u k g → Less s x e u k g
+most-less s x e t y d u k g E h i = through (gain s x) (debt s x) (gain t y) (debt t y) (gain u k) (debt u k) h i
+  where
+    through : (P N Q M R O : ℕ) → P * d + M * e ≤ Q * e + N * d → Q * g + O * d < R * d + M * g → P * g + O * e < R * e + N * g
+    through P N Q M R O h i =
+        let a : P * d * g + M * e * g ≤ Q * e * g + N * d * g = simp add-mul at (mul-le-mul-right g h) in
+        let b : Q * g * e + O * d * e < R * d * e + M * g * e = simp add-mul at (mul-lt-mul-of-pos-right i E) in
+        let c : P * g * d + O * e * d < R * e * d + N * g * d =
+        omega (arith, mul-right-comm P d g, mul-right-comm N d g, mul-right-comm M e g, mul-right-comm Q e g, mul-right-comm O d e, mul-right-comm R d e) in
+        lt-of-mul-lt-mul-right d (rw (← add-mul (P * g) (O * e) d, ← add-mul (R * e) (N * g) d) at c)
 
 -- ---- of all floats: what is not below is at least, and the other way round
 pub not-lt-le : (x y : Float) → isNan x ≡ false → isNan y ≡ false → lt x y ≡ false → T (le y x)

@@ -1,6 +1,6 @@
 -- The order of values with signs: rounding keeps it, a value that fits is its own rounding, a sum is one rounding and grows with what is added. Assumes nothing.
 use Prim.Native.Nat.{ℕ, _+_, _-_, _*_, _^_, _≤_, _<_}
-use native.Mathlib.Nat.{add-mul, mul-comm, mul-assoc, mul-right-comm, mul-le-mul-right, mul-one, zero-mul, mul-pos}
+use native.Mathlib.Nat.{add-mul, mul-comm, mul-assoc, mul-right-comm, mul-le-mul-right, mul-one, zero-mul, mul-pos, eq-of-mul-eq-mul-right}
 use native.Mathlib.Omega.{arith}
 use mathlib.Core.Path.{_≡_, refl, sym, ap, _∙_}
 use mathlib.Core.Bool.{Bool, true, false, not, false≢true}
@@ -18,7 +18,6 @@ use Rattle.laws.proofs.Floats.{gain, debt, gain-times, debt-times, Most, le-mos
 use Rattle.samples.specs.Sides.{finite}
 use Rattle.points.proofs.Rounding.{neg-round, plus, plus-round}
 use Rattle.points.proofs.Gaps.{units-of}
-use Rattle.points.proofs.Order.{zero-of}
 
 -- ---- the order turned round
 most-neg : (s : Bool) (x e : ℕ) (t : Bool) (y d : ℕ) → Most s x e t y d → Most (not t) y d (not s) x e
@@ -63,6 +62,9 @@ pub round-zero : (f : Format) (s : Bool) → round f s 0 1 ≡ fin s 0 (pos 0)
 unfolding round
 round-zero binary32 s = refl
 round-zero binary64 s = refl
+
+zero-of : (x d : ℕ) → 0 < d → x * d ≡ 0 → x ≡ 0
+zero-of x d D h = eq-of-mul-eq-mul-right d D x 0 (h ∙ sym (zero-mul d))
 
 round-nought : (f : Format) (s : Bool) (n c : ℕ) → 0 < c → n ≡ 0 → round f s n c ≡ fin s 0 (pos 0)
 round-nought f s n c C z = round-same f s n c 0 1 C (lit< tt) (mul-one n ∙ z ∙ sym (zero-mul c)) ∙ round-zero f s
