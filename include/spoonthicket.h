@@ -54,7 +54,8 @@ enum {
  * Done (0), the front of each list holds:
  *   masks      a mask of marked edges for each site
  *   table      at 7 * site + label the vertex of that owned edge, or SPOONTHICKET_NONE
- *   vertices   three coordinates for each vertex ever made
+ *   vertices   three coordinates for each vertex ever made, all finite: the point on its edge, or the mean of several such points. A point
+ *              stands between the two sites of its edge, at one of them where the samples there are on the same side of zero
  *   book       four words for each: site, edges held now (0 once retired), edges held when made, round made
  *   triangles  three vertex numbers for each triangle
  *   edges      zeros (108 a cell: room to work in)

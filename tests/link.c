@@ -1,4 +1,4 @@
-/* Links the archive from C by the header: the example (docs/SCOPE.md, S10.6), one refusal, its PLY file written and read, the volume of docs/SCOPE.md, S12.5, the topology test and the sort.
+/* Links the archive from C by the header: the example (docs/SCOPE.md, S10.6), one refusal, a box of negative samples without a spike, its PLY file written and read, the volume of docs/SCOPE.md, S12.5, the topology test and the sort.
    Prints "ok". */
 #include "spoonthicket.h"
 
@@ -65,6 +65,20 @@ int main(void)
             return failed("short room for a PLY file is not refused");
         if (spoonthicket_ply_read(file, 52, words, 3 * made, corners, 3 * faces, read) != SPOONTHICKET_PLY_HEADER || read[0] != 0 || read[1] != 0)
             return failed("a cut header is not refused");
+    }
+
+    {
+        /* All samples negative, the one in the middle inside: fourteen vertices, each at a site around it, which are whole and at most 3 off. */
+        for (i = 0; i < SITES; i++)
+            samples[i] = i == 13 ? -2.0e-9 : -1.0e-9;
+        if (spoonthicket_build(3, 3, 3, 1, 4, frame, samples, SITES, masks, SITES, table, 7 * SITES, vertices, 3 * MOST, book, 4 * MOST,
+                               triangles, 36 * CELLS, edges, 108 * CELLS, counts) != SPOONTHICKET_DONE || counts[SPOONTHICKET_MADE] != 14)
+            return failed("the box of negative samples");
+        for (i = 0; i < 3 * counts[SPOONTHICKET_MADE]; i++)
+            if (!(vertices[i] >= -3.0 && vertices[i] <= 3.0 && (double)(int)vertices[i] == vertices[i]))
+                return failed("a vertex that is at no site");
+        for (i = 0; i < SITES; i++)
+            samples[i] = i == 13 ? -1.0 : 1.0;
     }
 
     {

@@ -227,7 +227,8 @@ pub struct Mesh {
     pub masks: Vec<u16>,
     /// At 7 * site + label the vertex of that owned edge, or NONE.
     pub table: Vec<u32>,
-    /// Every vertex ever made, retired ones too.
+    /// Every vertex ever made, retired ones too: the point on its edge, or the mean of several such points. A point stands between the two
+    /// sites of its edge, at one of them where the samples there are on the same side of zero. All coordinates are finite.
     pub positions: Vec<[f64; 3]>,
     /// For each: the site that marked its edges, edges held now (0 once retired), edges held when made, round made.
     pub book: Vec<[u32; 4]>,

@@ -1,4 +1,4 @@
-//! Tests that link the archive: examples to check by (docs/SCOPE.md, S14.1), every refusal with every buffer untouched, buffers exactly full and one short.
+//! Tests that link the archive: examples to check by (docs/SCOPE.md, S14.1), points on their edges, every refusal with every buffer untouched, buffers exactly full and one short.
 
 use spoonthicket::{build, build_in, sort, topology, Buffers, Counts, Refusal, Request, NONE};
 
@@ -98,6 +98,43 @@ fn closed_surfaces() {
     let mesh = build(&asked([3, 3, 3], &s)).unwrap();
     assert_eq!(mesh.masks[13], 0x3FFF);
     assert_eq!(mesh.counts.closed, 1);
+}
+
+/// Both samples of an edge negative, one of them inside: the vertex stands at the site that is outside, and nothing flies off.
+#[test]
+fn no_spikes() {
+    let (edge, hair) = (-1.0e-9, f64::from_bits(0xbe112e0be826d696));
+    let site = |k: usize| {
+        let (u, v, w) = ((k % 3) as f64, (k / 3 % 3) as f64, (k / 9) as f64);
+        [w - u - v, u - v, -w]
+    };
+    for centre in [hair, -2.0e-9, -1.0, -1.0e300] {
+        for method in [0, 1] {
+            let s = ball(edge, centre);
+            let mesh = build(&Request { method, ..asked([3, 3, 3], &s) }).unwrap();
+            assert_eq!((mesh.counts.crossed, mesh.counts.vertices, mesh.counts.triangles), (14, 14, 24));
+            for (at, row) in mesh.positions.iter().zip(&mesh.book) {
+                assert_ne!(row[0], 13);
+                assert_eq!(*at, site(row[0] as usize));
+            }
+        }
+    }
+    // A frame whose rounded places are not whole: each coordinate lies between the two places of the edge, or within a rounding of the second.
+    let mut r = Random(7);
+    for _ in 0..200 {
+        let s: Vec<f64> = (0..27).map(|_| if r.below(2) == 0 { edge * (r.below(200) as f64 / 100.0) } else { r.sample() }).collect();
+        let request = Request { method: 0, origin: [0.1, -7.3, 1000.1], step: [0.7, 0.1, 3.3], ..asked([3, 3, 3], &s) };
+        let mesh = build(&request).unwrap();
+        for (k, &vertex) in mesh.table.iter().enumerate().filter(|(_, &v)| v != NONE) {
+            let (here, c) = (k / 7, [1, 3, 2, 5, 7, 6, 4][k % 7]);
+            let there = here + c % 2 + 3 * (c / 2 % 2) + 9 * (c / 4);
+            for axis in 0..3 {
+                let [p, q] = [here, there].map(|k| request.origin[axis] + site(k)[axis] * request.step[axis]);
+                let x = mesh.positions[vertex as usize][axis];
+                assert!(p.min(q) - 1.0e-12 <= x && x <= p.max(q) + 1.0e-12, "{here} {there} {axis}: {p} {x} {q}");
+            }
+        }
+    }
 }
 
 #[test]

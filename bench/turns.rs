@@ -1,0 +1,114 @@
+// Benchmark of two archives of ours in one program, such as one made before a change and one made after: the whole build, by turns, on the same samples.
+//
+// bench/run turns ARCHIVE links the other archive with every name of its own put behind `before_`. Both work in the same lists, one after the other, and
+// change places each round, so that neither always comes first. Masks, table, book, triangles and counts must be equal; how many positions are not is printed.
+// Times are microseconds: the median of the rounds, and the least.
+
+use std::hint::black_box;
+use std::time::Instant;
+
+type Build = unsafe extern "C" fn(
+    usize, usize, usize, usize, usize, *const [f64; 6], *const f64, usize, *mut u16, usize, *mut u32, usize, *mut f64, usize, *mut u32, usize,
+    *mut u32, usize, *mut u32, usize, *mut [usize; 10],
+) -> usize;
+
+extern "C" {
+    fn spoonthicket_build(
+        nu: usize, nv: usize, nw: usize, method: usize, rounds: usize, frame: *const [f64; 6], samples: *const f64, samples_len: usize,
+        masks: *mut u16, masks_len: usize, table: *mut u32, table_len: usize, vertices: *mut f64, vertices_len: usize, book: *mut u32,
+        book_len: usize, triangles: *mut u32, triangles_len: usize, edges: *mut u32, edges_len: usize, counts: *mut [usize; 10],
+    ) -> usize;
+    fn before_spoonthicket_build(
+        nu: usize, nv: usize, nw: usize, method: usize, rounds: usize, frame: *const [f64; 6], samples: *const f64, samples_len: usize,
+        masks: *mut u16, masks_len: usize, table: *mut u32, table_len: usize, vertices: *mut f64, vertices_len: usize, book: *mut u32,
+        book_len: usize, triangles: *mut u32, triangles_len: usize, edges: *mut u32, edges_len: usize, counts: *mut [usize; 10],
+    ) -> usize;
+}
+
+include!("shapes.rs");
+
+/// The smooth pile shrunk to the threshold, so that the fraction of many a point is held.
+fn waterline(n: usize) -> Vec<f64> {
+    smooth(n).into_iter().map(|x| -1.0e-9 + x * 1.0e-10).collect()
+}
+
+struct Lists {
+    masks: Vec<u16>,
+    table: Vec<u32>,
+    vertices: Vec<f64>,
+    book: Vec<u32>,
+    triangles: Vec<u32>,
+    edges: Vec<u32>,
+    counts: [usize; 10],
+}
+
+impl Lists {
+    fn new(n: usize) -> Lists {
+        let (sites, cells) = (n * n * n, (n - 1) * (n - 1) * (n - 1));
+        let most = 3 * 7 * sites / 2;
+        Lists {
+            masks: vec![0; sites],
+            table: vec![0; 7 * sites],
+            vertices: vec![0.0; 3 * most],
+            book: vec![0; 4 * most],
+            triangles: vec![0; 36 * cells],
+            edges: vec![0; 108 * cells],
+            counts: [0; 10],
+        }
+    }
+
+    fn build(&mut self, with: Build, n: usize, s: &[f64]) -> f64 {
+        let frame = [0.0, 0.0, 0.0, 1.0, 1.0, 1.0];
+        let start = Instant::now();
+        let status = unsafe {
+            with(
+                n, n, n, 1, 4, &frame, s.as_ptr(), s.len(), self.masks.as_mut_ptr(), self.masks.len(), self.table.as_mut_ptr(), self.table.len(),
+                self.vertices.as_mut_ptr(), self.vertices.len(), self.book.as_mut_ptr(), self.book.len(), self.triangles.as_mut_ptr(),
+                self.triangles.len(), self.edges.as_mut_ptr(), self.edges.len(), &mut self.counts,
+            )
+        };
+        let took = start.elapsed().as_secs_f64() * 1e6;
+        assert!(status == 0, "refused");
+        took
+    }
+
+    /// All that is left but the positions, and the positions by their bits.
+    fn left(&self) -> ((Vec<u16>, Vec<u32>, Vec<u32>, Vec<u32>, [usize; 10]), Vec<u64>) {
+        let [vertices, triangles] = [self.counts[1], self.counts[2]];
+        (
+            (self.masks.clone(), self.table.clone(), self.book[..4 * vertices].to_vec(), self.triangles[..3 * triangles].to_vec(), self.counts),
+            self.vertices[..3 * vertices].iter().map(|x| x.to_bits()).collect(),
+        )
+    }
+}
+
+fn main() {
+    let shapes: [(&str, fn(usize) -> Vec<f64>); 3] = [("smooth pile", smooth), ("noise", noise), ("waterline", waterline)];
+    let two: [Build; 2] = [before_spoonthicket_build, spoonthicket_build];
+    println!("| shape | a side | before, median | after | more | before, least | after | more | coordinates | of them other |");
+    println!("|---|---|---|---|---|---|---|---|---|---|");
+    for (name, make) in shapes {
+        for n in [16usize, 32] {
+            let (s, mut l) = (make(n), Lists::new(n));
+            let rounds = if n == 16 { 401 } else { 101 };
+            let mut times = [Vec::new(), Vec::new()];
+            for round in 0..rounds {
+                for k in [round % 2, 1 - round % 2] {
+                    times[k].push(l.build(two[k], n, black_box(&s)));
+                }
+            }
+            l.build(two[0], n, &s);
+            let before = l.left();
+            l.build(two[1], n, &s);
+            let after = l.left();
+            assert!(before.0 == after.0, "{name}, {n} a side: other masks, table, book, triangles or counts");
+            let other = before.1.iter().zip(&after.1).filter(|(x, y)| x != y).count();
+            let [b, a] = times.map(|mut t| {
+                t.sort_by(f64::total_cmp);
+                [t[t.len() / 2], t[0]]
+            });
+            let more = |k: usize| format!("{:+.1} %", 100.0 * (a[k] / b[k] - 1.0));
+            println!("| {name} | {n} | {:.0} | {:.0} | {} | {:.0} | {:.0} | {} | {} | {other} |", b[0], a[0], more(0), b[1], a[1], more(1), after.1.len());
+        }
+    }
+}
