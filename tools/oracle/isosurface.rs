@@ -1,6 +1,7 @@
 // The oracle's module `isosurface`: the stand-ins of docs/SCOPE.md, S16.4, shims, and the items taken out of the shown isosurface.rs.
 //
-// topology.rs asks this module for `lerp_alpha`, which is the free fraction; a point's is `point_alpha`. Everything written in this file is ours; the
+// topology.rs asks this module for `lerp_alpha` in its flat-hole test; a point's fraction is `point_alpha`. The marking loop asks for neither: it
+// divides by itself, in the Rust's own text. Everything written in this file is ours; the
 // Rust's own text comes in by the `include!` at the end. Main.rs lists what is ours.
 
 use crate::constants::{self, EDGE_DELTAS, MT_TABLE, OWNED_TET_EDGES, REVERSE_EDGE, TET_EDGE_PAIRS};
@@ -11,7 +12,8 @@ use std::sync::atomic::{AtomicU64, AtomicU8, Ordering::Relaxed};
 
 // ---- The stand-ins of docs/SCOPE.md, S16.4 ----
 
-/// Which fraction is used: the stand-ins; the free one for points too, as before points were held; the Rust's own `lerp_alpha` for all.
+/// Which fraction is used for points and in the flat-hole test: the stand-ins; the free one for points too, as before points were held; the Rust's
+/// own `lerp_alpha` for both. Marks are the same under every rule.
 #[derive(Clone, Copy, PartialEq)]
 pub enum Rule {
     Held,
@@ -30,7 +32,7 @@ fn followed(rule: Rule) -> bool {
     RULE.load(Relaxed) == rule as u8
 }
 
-/// The fraction of marks and flat holes is a/(a-b): no clamp, no rule for a small divisor.
+/// The fraction of the flat-hole test is a/(a-b), as the marking loop has it: no clamp, no rule for a small divisor.
 pub fn lerp_alpha(a: f64, b: f64) -> f64 {
     if followed(Rule::Shown) {
         return shown::lerp_alpha(a, b);

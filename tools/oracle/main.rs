@@ -12,8 +12,8 @@
 //
 // OURS, all of it:
 //   The stand-ins of docs/SCOPE.md, S16.4 (isosurface.rs of this folder): the box of sites and their order (`keys`), the frame
-//     (SampleLattice), the fraction of marks and flat holes as a/(a-b), free (lerp_alpha), that of a point as the same, held
-//     between 0 and 1 (point_alpha), edge_intersection_point, rollback_cluster_owners and its order,
+//     (SampleLattice), the fraction of the flat-hole test as a/(a-b), free (lerp_alpha; that of a mark is the marking loop's own), that of a
+//     point as the same, held between 0 and 1 (point_alpha), edge_intersection_point, rollback_cluster_owners and its order,
 //     and E as the number of times the marking loop marks.
 //   Changes made to the taken text: an end outside the box is passed over in the marking loop; `0..4` is `0..rounds`;
 //     lines that only note what is there (crossed += 1, seen.split, seen.owners, seen.made).
@@ -185,7 +185,8 @@ fn topology_all(seed: u64) {
     }
 }
 
-/// What the rule for the fraction changes in the first `count` files: our rules beside the free fraction for points, and beside the Rust's own.
+/// What the rule for the fraction changes in the first `count` files: our rules beside the free fraction for points, and beside the Rust's own for
+/// points and flat holes.
 fn rules(count: u64, file: impl Fn(u64) -> Vec<u8>) {
     let (mut built, mut points, mut moved, mut others, mut shown) = (0, 0, 0, 0, 0);
     for index in 0..count {
