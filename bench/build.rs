@@ -26,7 +26,7 @@ extern "C" {
         vertices: *mut f64, vertices_len: usize, book: *mut u32, book_len: usize, triangles: *mut u32, triangles_len: usize,
         edges: *mut u32, edges_len: usize, counts: *mut [usize; 10],
     ) -> usize;
-    fn spoonthicket_topology(mask: u16, method: usize, ends: *const [f64; 14], clusters: *mut [u16; 14]) -> usize;
+    fn spoonthicket_topology(mask: u16, method: usize, ends: *const [f64; 14], clusters: *mut [u16; 14], visits: *mut [usize; 1]) -> usize;
     fn phase_count(nu: usize, nv: usize, nw: usize, samples: *const f64, samples_len: usize) -> usize;
     fn phase_mark(nu: usize, nv: usize, nw: usize, samples: *const f64, samples_len: usize, masks: *mut u16, masks_len: usize);
     fn phase_draw(
@@ -128,12 +128,12 @@ fn topology(rounds: usize) -> (f64, f64) {
     let map: HashMap<[i64; 3], f64> = (0..14).map(|e| (constants::EDGE_DELTAS[e].map(i64::from), ends[e])).collect();
     let (mut a, mut b) = (Vec::new(), Vec::new());
     for _ in 0..rounds {
-        let mut clusters = [0u16; 14];
+        let (mut clusters, mut visits) = ([0u16; 14], [0]);
         let (t, total) = micros(|| {
             let mut total = 0;
             for mask in 0..16384u16 {
-                total += unsafe { spoonthicket_topology(black_box(mask), 1, &ends, &mut clusters) };
-                black_box(&clusters);
+                total += unsafe { spoonthicket_topology(black_box(mask), 1, &ends, &mut clusters, &mut visits) };
+                black_box((&clusters, &visits));
             }
             total
         });
@@ -151,8 +151,8 @@ fn topology(rounds: usize) -> (f64, f64) {
         assert!(total == theirs, "cases differ");
     }
     for mask in 0..16384u16 {
-        let mut clusters = [0u16; 14];
-        let case = unsafe { spoonthicket_topology(mask, 1, &ends, &mut clusters) };
+        let (mut clusters, mut visits) = ([0u16; 14], [0]);
+        let case = unsafe { spoonthicket_topology(mask, 1, &ends, &mut clusters, &mut visits) };
         let (theirs, masks) = isosurface::topology_of(mask, true, [0; 3], &map);
         assert!(case == theirs && clusters.iter().copied().take_while(|m| *m != 0).eq(masks), "topology of {mask:04x} differs");
     }

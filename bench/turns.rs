@@ -1,8 +1,9 @@
-// Benchmark of two archives of ours in one program, such as one made before a change and one made after: the whole build, by turns, on the same samples.
+// Benchmark of two archives of ours in one program, such as one made before a change and one made after: the topology test of every mask and the whole build,
+// by turns, on the same samples.
 //
 // bench/run turns ARCHIVE links the other archive with every name of its own put behind `before_`. Both work in the same lists, one after the other, and
-// change places each round, so that neither always comes first. Masks, table, book, triangles and counts must be equal; how many positions are not is printed.
-// Times are microseconds: the median of the rounds, and the least.
+// change places each round, so that neither always comes first. Cases and clusters must be equal; so must masks, table, book, triangles and counts; how many
+// positions are not is printed. Times are microseconds: the median of the rounds, and the least.
 
 use std::hint::black_box;
 use std::time::Instant;
@@ -12,7 +13,12 @@ type Build = unsafe extern "C" fn(
     *mut u32, usize, *mut u32, usize, *mut [usize; 10],
 ) -> usize;
 
+// An archive in which the test tells no visits is handed the last list as well and takes no notice of it.
+type Topology = unsafe extern "C" fn(u16, usize, *const [f64; 14], *mut [u16; 14], *mut [usize; 1]) -> usize;
+
 extern "C" {
+    fn spoonthicket_topology(mask: u16, method: usize, ends: *const [f64; 14], clusters: *mut [u16; 14], visits: *mut [usize; 1]) -> usize;
+    fn before_spoonthicket_topology(mask: u16, method: usize, ends: *const [f64; 14], clusters: *mut [u16; 14], visits: *mut [usize; 1]) -> usize;
     fn spoonthicket_build(
         nu: usize, nv: usize, nw: usize, method: usize, rounds: usize, frame: *const [f64; 6], samples: *const f64, samples_len: usize,
         masks: *mut u16, masks_len: usize, table: *mut u32, table_len: usize, vertices: *mut f64, vertices_len: usize, book: *mut u32,
@@ -82,7 +88,46 @@ impl Lists {
     }
 }
 
+/// The median and the least of each side.
+fn told(times: [Vec<f64>; 2]) -> [[f64; 2]; 2] {
+    times.map(|mut t| {
+        t.sort_by(f64::total_cmp);
+        [t[t.len() / 2], t[0]]
+    })
+}
+
+fn more(before: f64, after: f64) -> String {
+    format!("{:+.1} %", 100.0 * (after / before - 1.0))
+}
+
+/// The topology test of all 16,384 masks, as the library answers it.
+fn topology() {
+    let ends: [f64; 14] = std::array::from_fn(|e| [1.0, -3.0, 0.5, -0.25, 2.0][e % 5]);
+    let two: [Topology; 2] = [before_spoonthicket_topology, spoonthicket_topology];
+    let (mut clusters, mut visits) = ([0u16; 14], [0usize]);
+    for mask in 0..1u16 << 14 {
+        let [before, after] = two.map(|f| (unsafe { f(mask, 1, &ends, &mut clusters, &mut visits) }, clusters));
+        assert!(before == after, "another topology of {mask:04x}");
+    }
+    let mut times = [Vec::new(), Vec::new()];
+    for round in 0..401 {
+        for k in [round % 2, 1 - round % 2] {
+            let start = Instant::now();
+            for mask in 0..1u16 << 14 {
+                black_box(unsafe { two[k](black_box(mask), 1, &ends, &mut clusters, &mut visits) });
+                black_box((&clusters, &visits));
+            }
+            times[k].push(start.elapsed().as_secs_f64() * 1e6);
+        }
+    }
+    let [b, a] = told(times);
+    println!("| topology of | before, median | after | more | before, least | after | more |");
+    println!("|---|---|---|---|---|---|---|");
+    println!("| all 16,384 masks | {:.0} | {:.0} | {} | {:.0} | {:.0} | {} |\n", b[0], a[0], more(b[0], a[0]), b[1], a[1], more(b[1], a[1]));
+}
+
 fn main() {
+    topology();
     let shapes: [(&str, fn(usize) -> Vec<f64>); 3] = [("smooth pile", smooth), ("noise", noise), ("waterline", waterline)];
     let two: [Build; 2] = [before_spoonthicket_build, spoonthicket_build];
     println!("| shape | a side | before, median | after | more | before, least | after | more | coordinates | of them other |");
@@ -103,12 +148,9 @@ fn main() {
             let after = l.left();
             assert!(before.0 == after.0, "{name}, {n} a side: other masks, table, book, triangles or counts");
             let other = before.1.iter().zip(&after.1).filter(|(x, y)| x != y).count();
-            let [b, a] = times.map(|mut t| {
-                t.sort_by(f64::total_cmp);
-                [t[t.len() / 2], t[0]]
-            });
-            let more = |k: usize| format!("{:+.1} %", 100.0 * (a[k] / b[k] - 1.0));
-            println!("| {name} | {n} | {:.0} | {:.0} | {} | {:.0} | {:.0} | {} | {} | {other} |", b[0], a[0], more(0), b[1], a[1], more(1), after.1.len());
+            let [b, a] = told(times);
+            let by: [String; 2] = std::array::from_fn(|k| more(b[k], a[k]));
+            println!("| {name} | {n} | {:.0} | {:.0} | {} | {:.0} | {:.0} | {} | {} | {other} |", b[0], a[0], by[0], b[1], a[1], by[1], after.1.len());
         }
     }
 }

@@ -77,9 +77,14 @@ size_t spoonthicket_build(
 /* The topology test of one mask of near intersections (bits 14 and 15 are passed over), with the values at the fourteen ends of the
  * site's edges; a value that is not finite counts as missing. Answers the case: 0 closed, 1 multihole, 2 flathole, 3 multisurface,
  * 4 simple, 5 not clustered: a method other than 1, and a mask with one of the fourteen bits; without any it is 4 for every method.
- * clusters gets a mask for each cluster, in order, and zeros behind them.
+ * clusters gets a mask for each cluster, in order, and zeros behind them. visits gets how many edges the walks of the test took from
+ * their frontiers, together: never more than 14; 0 where no walk was made (none of the fourteen bits, all of them, or a method other
+ * than 1), as many as the mask has bits for case 3, and 14 for the others.
  */
-size_t spoonthicket_topology(uint16_t mask, size_t method, const double ends[14], uint16_t clusters[14]);
+size_t spoonthicket_topology(uint16_t mask, size_t method, const double ends[14], uint16_t clusters[14], size_t visits[1]);
+
+/* How many edges the component walks over a mask take: the ones among its fourteen low bits. */
+size_t spoonthicket_visits(uint16_t mask);
 
 /* Sorts records of three words, ascending by all three. Words past the last whole record stay. */
 void spoonthicket_sort(uint32_t *words, size_t words_len);

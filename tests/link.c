@@ -135,8 +135,15 @@ int main(void)
     {
         double ends[14] = {1.0, 1.0, 0.0, 0.0, -3.0, 0.0, 0.0, 0.0, 0.0, 0.0, 0.0, 0.0, 0.0, -3.0};
         uint16_t clusters[14];
-        if (spoonthicket_topology(0x2014, 1, ends, clusters) != 2)
+        size_t visits[1] = {99};
+        if (spoonthicket_topology(0x2014, 1, ends, clusters, visits) != 2)
             return failed("the flat hole");
+        if (visits[0] != 14)
+            return failed("the flat hole's visits");
+        if (spoonthicket_topology(0x2014, 0, ends, clusters, visits) != 5 || visits[0] != 0)
+            return failed("visits where nothing is clustered");
+        if (spoonthicket_visits(0x2014) != 3 || spoonthicket_visits(0xFFFF) != 14 || spoonthicket_visits(0xC000) != 0)
+            return failed("the visits of a walk");
         if (clusters[0] != 4 || clusters[1] != 0x10 || clusters[2] != 0x2000 || clusters[3] != 0)
             return failed("the flat hole's clusters");
     }

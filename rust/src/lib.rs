@@ -30,7 +30,14 @@ mod linked {
             edges_len: usize,
             counts: *mut [usize; 10],
         ) -> usize;
-        pub fn spoonthicket_topology(mask: u16, method: usize, ends: *const [f64; 14], clusters: *mut [u16; 14]) -> usize;
+        pub fn spoonthicket_topology(
+            mask: u16,
+            method: usize,
+            ends: *const [f64; 14],
+            clusters: *mut [u16; 14],
+            visits: *mut [usize; 1],
+        ) -> usize;
+        pub fn spoonthicket_visits(mask: u16) -> usize;
         pub fn spoonthicket_sort(words: *mut u32, words_len: usize);
         pub fn spoonthicket_ply_length(vertices: usize, faces: usize) -> usize;
         pub fn spoonthicket_ply_write(
@@ -288,12 +295,29 @@ pub fn build(request: &Request) -> Result<Mesh, Refusal> {
     })
 }
 
-/// The topology test of one mask: the case's number and the clusters' masks. A value that is not finite counts as missing. With a method other than 1
-/// the case is 5, not clustered; without any of the fourteen bits it is 4 for every method.
-pub fn topology(mask: u16, method: usize, ends: &[f64; 14]) -> (usize, Vec<u16>) {
+/// What the topology test tells of one mask.
+#[derive(Clone, Debug, PartialEq, Eq)]
+pub struct Topology {
+    /// 0 closed, 1 multihole, 2 flathole, 3 multisurface, 4 simple, 5 not clustered.
+    pub case: usize,
+    /// The edges of each cluster, as masks, in order.
+    pub clusters: Vec<u16>,
+    /// How many edges the walks of the test took from their frontiers, together: at most 14.
+    pub visits: usize,
+}
+
+/// The topology test of one mask. A value that is not finite counts as missing. With a method other than 1 the case is 5, not clustered; without any of the
+/// fourteen bits it is 4 for every method.
+pub fn topology(mask: u16, method: usize, ends: &[f64; 14]) -> Topology {
     let mut clusters = [0; 14];
-    let case = unsafe { linked::spoonthicket_topology(mask, method, ends, &mut clusters) };
-    (case, clusters.into_iter().take_while(|&m| m != 0).collect())
+    let mut visits = [0];
+    let case = unsafe { linked::spoonthicket_topology(mask, method, ends, &mut clusters, &mut visits) };
+    Topology { case, clusters: clusters.into_iter().take_while(|&m| m != 0).collect(), visits: visits[0] }
+}
+
+/// How many edges the component walks over a mask take: the ones among its fourteen low bits.
+pub fn visits(mask: u16) -> usize {
+    unsafe { linked::spoonthicket_visits(mask) }
 }
 
 /// Sorts records of three words, ascending by all three; words past the last whole record stay.

@@ -1,6 +1,6 @@
 //! Tests that link the archive: examples to check by (docs/SCOPE.md, S14.1), points on their edges, every refusal with every buffer untouched, buffers exactly full and one short.
 
-use spoonthicket::{build, build_in, sort, topology, Buffers, Counts, Refusal, Request, NONE};
+use spoonthicket::{build, build_in, sort, topology, visits, Buffers, Counts, Refusal, Request, Topology, NONE};
 
 const ORIGIN: [f64; 3] = [0.0; 3];
 const STEP: [f64; 3] = [1.0; 3];
@@ -331,19 +331,43 @@ fn pieces_make_the_whole() {
 
 #[test]
 fn topology_examples() {
+    let told = |case, clusters: &[u16], visits| Topology { case, clusters: clusters.to_vec(), visits };
+    let each: Vec<u16> = (0..14).map(|e| 1 << e).collect();
     let far = [f64::NAN; 14];
-    assert_eq!(topology(0, 1, &far), (4, vec![]));
-    assert_eq!(topology(0xC000, 1, &far), (4, vec![]));
-    assert_eq!(topology(0x3FFF, 1, &far), (0, (0..14).map(|e| 1 << e).collect()));
-    assert_eq!(topology(0x0003, 1, &far), (4, vec![3]));
-    assert_eq!(topology(0x0081, 1, &far), (3, vec![1, 0x80]));
-    assert_eq!(topology(0x2015, 1, &far), (1, vec![1, 4, 0x10, 0x2000]));
+    assert_eq!(topology(0, 1, &far), told(4, &[], 0));
+    assert_eq!(topology(0xC000, 1, &far), told(4, &[], 0));
+    assert_eq!(topology(0x3FFF, 1, &far), told(0, &each, 0));
+    assert_eq!(topology(0x0003, 1, &far), told(4, &[3], 14));
+    assert_eq!(topology(0x0081, 1, &far), told(3, &[1, 0x80], 2));
+    assert_eq!(topology(0x2015, 1, &far), told(1, &[1, 4, 0x10, 0x2000], 14));
     let mut ends = far;
     (ends[0], ends[1], ends[4], ends[13]) = (1.0, 1.0, -3.0, -3.0);
-    assert_eq!(topology(0x2014, 1, &ends).0, 2);
+    assert_eq!(topology(0x2014, 1, &ends), told(2, &[4, 0x10, 0x2000], 14));
     (ends[0], ends[1]) = (3.0, 3.0);
-    assert_eq!(topology(0x2014, 1, &ends), (4, vec![0x2014]));
-    assert_eq!(topology(0x2014, 0, &ends), (5, vec![4, 0x10, 0x2000]));
+    assert_eq!(topology(0x2014, 1, &ends), told(4, &[0x2014], 14));
+    assert_eq!(topology(0x2014, 0, &ends), told(5, &[4, 0x10, 0x2000], 0));
+    assert_eq!(topology(0x3FFF, 0, &ends), told(5, &each, 0));
+    assert_eq!(topology(0, 0, &ends), told(4, &[], 0));
+}
+
+/// Every mask, with bits 14 and 15 and without: the walks take its ones, and the test never more than 14 edges.
+#[test]
+fn visits_of_every_mask() {
+    for mask in 0..=u16::MAX {
+        let ones = (mask & 0x3FFF).count_ones() as usize;
+        assert_eq!(visits(mask), ones, "mask {mask:04x}");
+        for method in [0, 1, 2] {
+            for end in [f64::NAN, 1.0] {
+                let t = topology(mask, method, &[end; 14]);
+                let wanted = match t.case {
+                    _ if method != 1 || ones == 0 || ones == 14 => 0,
+                    3 => ones,
+                    _ => 14,
+                };
+                assert_eq!(t.visits, wanted, "mask {mask:04x}, method {method}, case {}", t.case);
+            }
+        }
+    }
 }
 
 #[test]

@@ -2,7 +2,7 @@
 //! be equal, masks, edge table, positions, book and triangles among it; and the topology test of all masks, NaN and infinities at the ends among the values.
 //! Without the variable nothing is compared, and the tests say so.
 
-use spoonthicket::{build, count_file, topology, NONE};
+use spoonthicket::{build, count_file, topology, visits, NONE};
 use std::fmt::Write as _;
 use std::io::Write as _;
 use std::process::{Command, Stdio};
@@ -117,7 +117,7 @@ fn drawn(x: &mut u64) -> f64 {
     }
 }
 
-/// The topology test of all 16,384 masks, for SPOONTHICKET_SEEDS seeds (20 if not given).
+/// The topology test of all 16,384 masks, for SPOONTHICKET_SEEDS seeds (20 if not given), and the edges that the walks over each of 65,536 masks take.
 #[test]
 fn every_mask() {
     let Ok(oracle) = std::env::var("SPOONTHICKET_ORACLE") else {
@@ -130,15 +130,18 @@ fn every_mask() {
         let mut ours = String::new();
         for mask in 0..1 << 14 {
             let ends = std::array::from_fn(|_| drawn(&mut x));
-            let (case, clusters) = topology(mask, 1, &ends);
-            let _ = write!(ours, "{mask:04x} {case} {}", clusters.len());
-            for cluster in clusters {
+            let t = topology(mask, 1, &ends);
+            let _ = write!(ours, "{mask:04x} {} {}", t.case, t.clusters.len());
+            for cluster in t.clusters {
                 let _ = write!(ours, " {cluster:04x}");
             }
-            ours.push('\n');
+            let _ = writeln!(ours, " {}", t.visits);
         }
         let theirs = run(&oracle, &["--topology-all", &seed.to_string()], b"");
         assert!(ours.as_bytes() == theirs, "seed {seed}: another answer");
     }
     println!("topology: all masks, {seeds} seeds, equal");
+    let ours: String = (0..=u16::MAX).map(|mask| format!("{mask:04x} {}\n", visits(mask))).collect();
+    assert!(ours.as_bytes() == run(&oracle, &["--visits-all"], b""), "other visits of a walk");
+    println!("visits: all masks, equal");
 }

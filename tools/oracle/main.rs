@@ -1,7 +1,7 @@
 // The oracle: the shown Rust, run with the stand-ins of docs/SCOPE.md, S16.4, to be held beside our own programs.
 //
 // THE RUST'S, compiled from its own files at build time (tools/oracle/build):
-//   topology.rs, constants.rs     whole and unchanged
+//   topology.rs, constants.rs     whole and unchanged; topology.rs once more with its walk counted (`visits`)
 //   of isosurface.rs              ClusterMethod, SamplePoint, VertexCandidate, get_edge_points, get_edge_owner,
 //                                 edge_ref_get, edge_ref_set, push_vertex, average_point, interpolate_points,
 //                                 edge_delta, add_ijk, tetrahedron_cases, march_tets, build_facets, is_inside,
@@ -20,6 +20,7 @@
 //   Shims: rayon's par_iter and par_chunks in order; curvature weights never called; progress and messages dropped.
 //   The vertex book: read off the Rust's edge table after each pass, and off the masks.
 //   The call of test_topology for the dump (the build makes its own calls).
+//   The edges that the component walks take (visits.rs), by a walk of our own; the Rust's, counted, must take as many.
 //   The count file, its refusals, what is printed, the checks of each answer (countfile.rs), the PLY file (ply.rs),
 //     the volume (volume.rs), the generator (generate.rs), the search (search.rs), and the commands below.
 //
@@ -32,9 +33,11 @@ mod generate;
 mod isosurface;
 mod ply;
 mod search;
+mod visits;
 mod volume;
 
 include!(concat!(env!("ORACLE_MADE"), "/modules.rs"));
+include!(concat!(env!("ORACLE_MADE"), "/walked.rs"));
 
 use std::collections::HashMap;
 use std::io::{Read, Write};
@@ -51,6 +54,7 @@ const USAGE: &str = "usage: oracle [--dump | --ply] [--unbounded] [FILE]
        oracle --search SEED SECONDS FOLDER [NAME]
        oracle --topology MASK CLUSTER V0 .. V13
        oracle --topology-all SEED
+       oracle --visits-all
        oracle --owner I J K I J K
        oracle --tet T A B C D
        oracle --inside V
@@ -175,13 +179,27 @@ fn tables() {
     }
 }
 
+/// `CASE K HEX4... VISITS`
+fn topology_line(mask: u16, cluster: bool, values: &[Option<f64>]) -> String {
+    let values = ends(values);
+    let (case, clusters) = isosurface::topology_of(mask, cluster, [0; 3], &values);
+    format!("{} {}", countfile::topology_text(case, &clusters), visits::of_test(mask, cluster, case, &values))
+}
+
+/// The edges that the walks over each mask take.
+fn visits_all() {
+    let mut out = std::io::BufWriter::new(std::io::stdout().lock());
+    for mask in 0..=u16::MAX {
+        let _ = writeln!(out, "{mask:04x} {}", visits::of_walk(mask));
+    }
+}
+
 fn topology_all(seed: u64) {
     let mut out = std::io::BufWriter::new(std::io::stdout().lock());
     let mut state = seed;
     for mask in 0..16384u16 {
         let values: Vec<Option<f64>> = (0..14).map(|_| generate::end_value(&mut state)).collect();
-        let (case, clusters) = isosurface::topology_of(mask, true, [0; 3], &ends(&values));
-        let _ = writeln!(out, "{mask:04x} {}", countfile::topology_text(case, &clusters));
+        let _ = writeln!(out, "{mask:04x} {}", topology_line(mask, true, &values));
     }
 }
 
@@ -259,10 +277,10 @@ fn main() {
         ["--topology", mask, cluster, values @ ..] if values.len() == 14 => {
             let mask = u16::from_str_radix(mask, 16).unwrap_or_else(|_| stop("not a mask"));
             let values: Vec<Option<f64>> = values.iter().map(|v| value(v)).collect();
-            let (case, clusters) = isosurface::topology_of(mask, *cluster == "1", [0; 3], &ends(&values));
-            println!("{}", countfile::topology_text(case, &clusters));
+            println!("{}", topology_line(mask, *cluster == "1", &values));
         }
         ["--topology-all", seed] => topology_all(number(seed)),
+        ["--visits-all"] => visits_all(),
         ["--owner", a, b, c, d, e, f] => {
             let [a, b, c, d, e, f] = [a, b, c, d, e, f].map(|x| number::<i64>(x));
             match isosurface::owner_of([a, b, c], [d, e, f]) {

@@ -11,6 +11,7 @@ use Rattle.api.proofs.spoonthicket_sort.Reads as spoonthicket-sort
 use Rattle.api.proofs.Unique.{call-unique, topology-unique, ply-written-unique, ply-sized-unique, ply-read-unique, volume-told-unique}
 use Rattle.api.proofs.spoonthicket_build.Reads as spoonthicket-build
 use Rattle.api.proofs.spoonthicket_topology.Reads as spoonthicket-topology
+use Rattle.api.proofs.spoonthicket_visits.Reads as spoonthicket-visits
 use Rattle.api.proofs.spoonthicket_ply_length.Reads as spoonthicket-ply-length
 use Rattle.api.proofs.spoonthicket_ply_write.Reads as spoonthicket-ply-write
 use Rattle.api.proofs.spoonthicket_ply_mesh.Reads as spoonthicket-ply-mesh
@@ -21,8 +22,11 @@ use Rattle.api.proofs.spoonthicket_volume.Reads as spoonthicket-volume
 pub spoonthicket-build-determined : OneOutcome {B = Lists × List ℕ} (λ κ e. (lists (now (e .1 .1 .1 .1 .1 .1 .1 .0)) (now (e .1 .1 .1 .1 .1 .1 .1 .1 .0)) (now (e .1 .1 .1 .1 .1 .1 .1 .1 .1 .0)) (now (e .1 .1 .1 .1 .1 .1 .1 .1 .1 .1 .0)) (now (e .1 .1 .1 .1 .1 .1 .1 .1 .1 .1 .1 .0)) (now (e .1 .1 .1 .1 .1 .1 .1 .1 .1 .1 .1 .1 .0)), now (e .1 .1 .1 .1 .1 .1 .1 .1 .1 .1 .1 .1 .1 .0))) spoonthicket-build.Post
 spoonthicket-build-determined κ a y z e f p q = let u = call-unique p q in (u .1, λ i. (u .0 i, u .2 i))
 
-pub spoonthicket-topology-determined : OneOutcome (λ κ e. now (e .1 .1 .1 .0)) spoonthicket-topology.Post
-spoonthicket-topology-determined κ a y z e f p q = topology-unique p q
+pub spoonthicket-topology-determined : OneOutcome {B = List ℕ × List ℕ} (λ κ e. (now (e .1 .1 .1 .0), now (e .1 .1 .1 .1 .0))) spoonthicket-topology.Post
+spoonthicket-topology-determined κ a y z e f p q = let u = topology-unique p q in (u .0, λ i. (u .1 i, u .2 i))
+
+pub spoonthicket-visits-determined : OneAnswer spoonthicket-visits.Post
+spoonthicket-visits-determined κ a y z e f p q = p ∙ sym q
 
 pub spoonthicket-ply-length-determined : OneAnswer spoonthicket-ply-length.Post
 spoonthicket-ply-length-determined κ a y z e f p q = p ∙ sym q

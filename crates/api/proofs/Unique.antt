@@ -23,9 +23,9 @@ call-unique a b =
     (u .1, a .status ∙ ap (λ (z : Answer). z .status) (u .0) ∙ sym (b .status), a .counts ∙ ap countsOf (u .0) ∙ sym (b .counts))
 
 -- that of `spoonthicket_topology`; that of `spoonthicket_sort` is `sort-unique` of sort
-pub topology-unique : {mask method : ℕ} {ends : List Float} {r q : ℕ} {c d : List ℕ} → TopologyTold mask method ends r c → TopologyTold mask method ends q d
-    → (r ≡ q) × (c ≡ d)
-topology-unique a b = (a .case ∙ sym (b .case), a .clusters ∙ sym (b .clusters))
+pub topology-unique : {mask method : ℕ} {ends : List Float} {r q : ℕ} {c d v w : List ℕ} → TopologyTold mask method ends r c v
+    → TopologyTold mask method ends q d w → (r ≡ q) × (c ≡ d) × (v ≡ w)
+topology-unique a b = (a .case ∙ sym (b .case), a .clusters ∙ sym (b .clusters), a .visits ∙ sym (b .visits))
 
 -- those of the functions on PLY files
 pub ply-written-unique : {ws ts l x y n m : List ℕ} {r q : ℕ} → PlyWritten ws ts l x r n → PlyWritten ws ts l y q m → (x ≡ y) × (r ≡ q) × (n ≡ m)

@@ -32,7 +32,8 @@ pub record CallOf (nu nv nw method R : ℕ) (f S : List Float) (l l′ : Lists) 
   pub status : r ≡ answer .status
   pub counts : c ≡ countsOf answer
 
--- a call of the topology test: r is the case's number, and the list c has the clusters
-pub record TopologyTold (mask method : ℕ) (ends : List Float) (r : ℕ) (c : List ℕ) : Type 0 where
+-- a call of the topology test: r is the case's number, the list c has the clusters, and the list v the visits
+pub record TopologyTold (mask method : ℕ) (ends : List Float) (r : ℕ) (c v : List ℕ) : Type 0 where
   pub case : r ≡ caseNumber (topologyOf mask (eqb method 1) (endsAt ends) base .case)
   pub clusters : c ≡ topologyOf mask (eqb method 1) (endsAt ends) base .clusters .masks
+  pub visits : v ≡ topologyOf mask (eqb method 1) (endsAt ends) base .visits ∷ []

@@ -1,4 +1,4 @@
-// What C and Rust link: the build, PLY files, the volume, and two leaves for whoever measures. No function here asks anything of its caller but that each
+// What C and Rust link: the build, PLY files, the volume, and three leaves for whoever measures. No function here asks anything of its caller but that each
 // list is as long as it says, that the lists do not overlap, and that the fixed ones have their entries.
 use build::Answer;
 use lattice::Sides;
@@ -10,6 +10,7 @@ ghost use mathlib.Core.Path.{_≡_};
 ghost use Prim.Native.Nat.{_<_};
 ghost use Rattle.marks.specs.Marks.{sample};
 ghost use Rattle.sort.specs.Order.{Sorts};
+ghost use Rattle.topology.specs.Walk.{visits};
 ghost use Rattle.build.specs.Answer.{lists, countsOf};
 ghost use Rattle.ply_write.specs.Answers.{bitsOf, fileLength};
 ghost use Rattle.api.specs.Calls.{frameAt, endsAt, CallOf, TopologyTold};
@@ -100,22 +101,32 @@ fn ends_at(ends: &[f64; 14]) -> [Sample; 14]
     known
 }
 
-// The topology test of one mask: the case's number, and the clusters' masks, zeros behind them.
+// The topology test of one mask: the case's number; the clusters' masks, zeros behind them; and how many edges its walks took from their frontiers.
 #[no_mangle]
 pub extern "C" fn spoonthicket_topology(
     mask: u16,
     method: usize,
     ends: &[f64; 14],
     clusters: &mut [u16; 14],
+    visits: &mut [usize; 1],
 ) -> usize
-    ensures { λ r. ⌜ TopologyTold «mask» method (now (ends .entry)) r (now (clusters .exit)) ⌝ }
+    ensures { λ r. ⌜ TopologyTold «mask» method (now (ends .entry)) r (now (clusters .exit)) (now (visits .exit)) ⌝ }
 {
     let known = ends_at(ends);
     let found = topology::test_topology(mask, method == 1, known, samples::INSIDE);
     let masks = found.clusters.masks;
     *clusters = masks;
+    *visits = [found.visits];
     let case = found.case;
     topology::case_number(case)
+}
+
+// How many edges the walks over a mask take, before any is made.
+#[no_mangle]
+pub extern "C" fn spoonthicket_visits(mask: u16) -> usize
+    ensures { λ r. ⌜ r ≡ visits «mask» ⌝ }
+{
+    topology::visit_total(mask)
 }
 
 // Sorts records of three words by all three; words past the last whole record stay.

@@ -322,6 +322,15 @@ ones-pos zero m e h s = absurd (not-suc-le-zero h)
 ones-pos (suc k) m zero h s = omega arith
 ones-pos (suc k) m (suc e) h s = omega (arith, ones-pos k (m / 2) e (omega arith) s)
 
+-- it goes by the k lowest digits, and higher ones count for nothing
+ones-same : (k a b : ℕ) → ((e : ℕ) → e < k → digit a e ≡ digit b e) → onesIn k a ≡ onesIn k b
+unfolding onesIn digit
+ones-same zero a b h = refl
+ones-same (suc k) a b h = omega (arith, h 0 (omega arith), ones-same k (a / 2) (b / 2) (λ e l. h (suc e) (omega arith)))
+
+pub ones-low : (k m : ℕ) → onesIn k (bitAnd m (2 ^ k - 1)) ≡ onesIn k m
+ones-low k m = ones-same k (bitAnd m (2 ^ k - 1)) m (λ e l. omega (arith, digit-and m (2 ^ k - 1) e, digit-all k e l, digit-lt m e))
+
 -- the count is the language's own
 none : onesIn 0 0 ≡ ones 0
 unfolding ones onesIn

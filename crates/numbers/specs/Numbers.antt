@@ -9,6 +9,7 @@ use lib.Bits.{bitAnd}
 use lib.Count.{trailingZeros}
 use lib.Ieee.{Float, nan, inf, fin, binary64, lt, neg, sub, div, ofBits}
 use Rattle.laws.specs.Bools.{bit}
+use Rattle.laws.specs.Lists.{total}
 use Rattle.laws.specs.Ranges.{each, any}
 use Rattle.laws.specs.Digits.{digit, isSet, mask}
 use Rattle.tables.specs.Edges.{areNeighbours, neighbourMask, corners, cornerOf, du, dv, dw}
@@ -24,11 +25,11 @@ use Rattle.lattice.specs.Sites.{sites, inBox, siteOf, uvwOf, step}
 use Rattle.lattice.specs.Across.{upward, downward, acrossAt, acrossOf}
 use Rattle.marks.specs.Marks.{markedBy, marked, maskAt, masksOf}
 use Rattle.topology.specs.declared.TopologyCase.{TopologyCase}
-use Rattle.topology.specs.declared.TopologyCase.the-variants.{ClosedSurface, MultiHole, FlatHole, MultiSurface, SimpleSurface}
+use Rattle.topology.specs.declared.TopologyCase.the-variants.{ClosedSurface, MultiHole, FlatHole, MultiSurface, SimpleSurface, DoNotCluster}
 use Rattle.topology.specs.declared.TopologyResult.{TopologyResult}
-use Rattle.topology.specs.Walk.{lowBit, found, remTurn, frTurn, compTurn, walk, first, componentsIn, components}
+use Rattle.topology.specs.Walk.{lowBit, found, remTurn, frTurn, compTurn, walk, first, walksIn, walks, components, visits}
 use Rattle.topology.specs.Flat.{collapses, collapsesAt, pairsCollapse, rowFlat, isFlat}
-use Rattle.topology.specs.Topology.{kindOf, singles, result, caseOf, topologyOf}
+use Rattle.topology.specs.Topology.{kindOf, singles, result, caseOf, visitsOf, topologyOf}
 use Rattle.cases.specs.Cases.{caseFrom}
 
 -- ---- what is asked, and what is answered, with the threshold 1.0e-9
@@ -46,8 +47,11 @@ pub data Ask : Type 0 where
   both : ℕ → ℕ → Ask
   -- which edges of the mask are neighbours of the edge?
   beside : ℕ → ℕ → Ask
-  -- the topology test of a mask, to be clustered, with the samples at the fourteen ends
+  -- how many edges do the walks over the mask take?
+  walking : ℕ → Ask
+  -- the topology test of a mask, to be clustered or not, with the samples at the fourteen ends
   near : ℕ → List Sample → Ask
+  unclustered : ℕ → Ask
   -- a tetrahedron with these samples at its four corners
   tetrahedron : Sample → Sample → Sample → Sample → Ask
 
@@ -60,10 +64,14 @@ pub data Answer : Type 0 where
   areSo : Bool → Answer
   -- as a mask
   areThese : ℕ → Answer
-  -- the case and the clusters
+  areMany : ℕ → Answer
+  -- the case, the clusters and how many edges the walks took
   isCase : TopologyResult → Answer
   -- the case and how many triangles it has
   hasTriangles : ℕ → ℕ → Answer
+
+abbrev pub noEnds : List Sample
+noEnds = Missing ∷ Missing ∷ Missing ∷ Missing ∷ Missing ∷ Missing ∷ Missing ∷ Missing ∷ Missing ∷ Missing ∷ Missing ∷ Missing ∷ Missing ∷ Missing ∷ []
 
 abbrev pub pair : Sides
 pair = record { nu = 2; nv = 1; nw = 1 }
@@ -75,7 +83,9 @@ answer (toHold t) = isFraction (hold t)
 answer (point a b) = isFraction (pointFraction a b)
 answer (both e f) = areSo (areNeighbours e f)
 answer (beside e m) = areThese (bitAnd (neighbourMask e) m)
+answer (walking m) = areMany (visits m)
 answer (near m ends) = isCase (topologyOf m true ends base)
+answer (unclustered m) = isCase (topologyOf m false noEnds base)
 answer (tetrahedron a b c d) = hasTriangles (caseFrom a b c d base) (length (mtRow (caseFrom a b c d base)))
 
 -- ---- how the rows are written
@@ -112,12 +122,13 @@ byOther = only [] ∷ only (7 ∷ []) ∷ []
 abbrev pub nobody : List ℕ
 nobody = only [] ∷ only [] ∷ []
 
--- the case, and each cluster by its edges
-abbrev pub says : TopologyCase → List (List ℕ) → Answer
-says c clusters = isCase (result c (map only clusters))
+-- the case, each cluster by its edges, and how many edges the walks took
+abbrev pub says : TopologyCase → List (List ℕ) → ℕ → Answer
+says c clusters v = isCase (result c (map only clusters) v)
 
-abbrev pub noEnds : List Sample
-noEnds = Missing ∷ Missing ∷ Missing ∷ Missing ∷ Missing ∷ Missing ∷ Missing ∷ Missing ∷ Missing ∷ Missing ∷ Missing ∷ Missing ∷ Missing ∷ Missing ∷ []
+-- each edge by itself
+abbrev pub alone : List (List ℕ)
+alone = (0 ∷ []) ∷ (1 ∷ []) ∷ (2 ∷ []) ∷ (3 ∷ []) ∷ (4 ∷ []) ∷ (5 ∷ []) ∷ (6 ∷ []) ∷ (7 ∷ []) ∷ (8 ∷ []) ∷ (9 ∷ []) ∷ (10 ∷ []) ∷ (11 ∷ []) ∷ (12 ∷ []) ∷ (13 ∷ []) ∷ []
 
 -- s at ends 0 and 1, t at ends 4 and 13; the others are missing
 abbrev pub fourEnds : Float → Float → List Sample
@@ -182,19 +193,30 @@ table =
     ∷ row (beside 0 0xFFFF) (areThese (only (1 ∷ 3 ∷ 4 ∷ 9 ∷ 12 ∷ 13 ∷ [])))
     ∷ row (beside 0 0x2005) (areThese (only (13 ∷ [])))
     ∷ row (beside 0 0x0000) (areThese (only []))
-    -- masks, with their clusters by edges
-    ∷ row (near 0x0000 noEnds) (says SimpleSurface [])
-    ∷ row (near 0xC000 noEnds) (says SimpleSurface [])
-    ∷ row (near 0x3FFF noEnds)
-    (says ClosedSurface
-    ((0 ∷ []) ∷ (1 ∷ []) ∷ (2 ∷ []) ∷ (3 ∷ []) ∷ (4 ∷ []) ∷ (5 ∷ []) ∷ (6 ∷ []) ∷ (7 ∷ []) ∷ (8 ∷ []) ∷ (9 ∷ []) ∷ (10 ∷ []) ∷ (11 ∷ []) ∷ (12 ∷ []) ∷ (13 ∷ []) ∷ []))
-    ∷ row (near 0x0003 noEnds) (says SimpleSurface ((0 ∷ 1 ∷ []) ∷ []))
-    ∷ row (near 0x0081 noEnds) (says MultiSurface ((0 ∷ []) ∷ (7 ∷ []) ∷ []))
-    ∷ row (near 0x2015 noEnds) (says MultiHole ((0 ∷ []) ∷ (2 ∷ []) ∷ (4 ∷ []) ∷ (13 ∷ []) ∷ []))
+    -- the walks take each of the fourteen edges once, and bits 14 and 15 are none
+    ∷ row (walking 0x0000) (areMany 0)
+    ∷ row (walking 0xC000) (areMany 0)
+    ∷ row (walking 0x0001) (areMany 1)
+    ∷ row (walking 0x2000) (areMany 1)
+    ∷ row (walking 0x0081) (areMany 2)
+    ∷ row (walking 0x1FFF) (areMany 13)
+    ∷ row (walking 0x3FFF) (areMany 14)
+    ∷ row (walking 0xFFFF) (areMany 14)
+    -- masks, with their clusters by edges: no walk where there is no edge or each has a mark, one of several surfaces, else two
+    ∷ row (near 0x0000 noEnds) (says SimpleSurface [] 0)
+    ∷ row (near 0xC000 noEnds) (says SimpleSurface [] 0)
+    ∷ row (near 0x3FFF noEnds) (says ClosedSurface alone 0)
+    ∷ row (near 0x0003 noEnds) (says SimpleSurface ((0 ∷ 1 ∷ []) ∷ []) 14)
+    ∷ row (near 0x0081 noEnds) (says MultiSurface ((0 ∷ []) ∷ (7 ∷ []) ∷ []) 2)
+    ∷ row (near 0x2015 noEnds) (says MultiHole ((0 ∷ []) ∷ (2 ∷ []) ∷ (4 ∷ []) ∷ (13 ∷ []) ∷ []) 14)
     -- 0x2014 is flat with 1 at the ends 0 and 1 and −3 at the ends 4 and 13, and is not with 3 at the ends 0 and 1, nor where an end is not finite
-    ∷ row (near 0x2014 (fourEnds (plus 1) (minus 3))) (says FlatHole ((2 ∷ []) ∷ (4 ∷ []) ∷ (13 ∷ []) ∷ []))
-    ∷ row (near 0x2014 (fourEnds (plus 3) (minus 3))) (says SimpleSurface ((2 ∷ 4 ∷ 13 ∷ []) ∷ []))
-    ∷ row (near 0x2014 (fourEnds (plus 1) (inf true))) (says SimpleSurface ((2 ∷ 4 ∷ 13 ∷ []) ∷ []))
+    ∷ row (near 0x2014 (fourEnds (plus 1) (minus 3))) (says FlatHole ((2 ∷ []) ∷ (4 ∷ []) ∷ (13 ∷ []) ∷ []) 14)
+    ∷ row (near 0x2014 (fourEnds (plus 3) (minus 3))) (says SimpleSurface ((2 ∷ 4 ∷ 13 ∷ []) ∷ []) 14)
+    ∷ row (near 0x2014 (fourEnds (plus 1) (inf true))) (says SimpleSurface ((2 ∷ 4 ∷ 13 ∷ []) ∷ []) 14)
+    -- not to be clustered: no walk
+    ∷ row (unclustered 0x0000) (says SimpleSurface [] 0)
+    ∷ row (unclustered 0x2014) (says DoNotCluster ((2 ∷ []) ∷ (4 ∷ []) ∷ (13 ∷ []) ∷ []) 0)
+    ∷ row (unclustered 0x3FFF) (says DoNotCluster alone 0)
     -- corners −1, 1, 1, 1: case 1, one triangle; with a NaN, an infinity or a missing corner case 0
     ∷ row (tetrahedron within outside outside outside) (hasTriangles 1 1)
     ∷ row (tetrahedron within (Value nan) outside outside) (hasTriangles 0 0)
@@ -205,8 +227,8 @@ table =
     ∷ []
 
 pub numbers : map (λ (r : Row). answer (r .ask)) table ≡ map (λ (r : Row). r .gets) table
-unfolding answer table inside finite whenFinite known markFraction hold pointFraction crossing isNear lt neg sub div ofBits bit each any digit isSet mask trailingZeros
+unfolding answer table inside finite whenFinite known markFraction hold pointFraction crossing isNear lt neg sub div ofBits bit total each any digit isSet mask trailingZeros
     corners cornerOf du dv dw sites inBox siteOf uvwOf step upward downward acrossAt acrossOf markedBy marked maskAt masksOf
-    topologyOf caseOf kindOf singles isFlat rowFlat pairsCollapse collapsesAt collapses components componentsIn first walk remTurn frTurn compTurn found lowBit
+    topologyOf caseOf visitsOf kindOf singles isFlat rowFlat pairsCollapse collapsesAt collapses components visits walks walksIn first walk remTurn frTurn compTurn found lowBit
     neighbourMask areNeighbours flatHole flatHoles holeOf caseFrom mtRow
 numbers = refl

@@ -22,7 +22,7 @@ use Rattle.march.specs.Cells.{at, caseOf, tetOk, caseNo, onEach, tetTris, cellT
 use Rattle.march.specs.March.{none, okAt, sideAt, vertexAt, cornersOf, vertexIn, resolved, proper, emitted, siteTris, slab, march}
 use Rattle.march.specs.Runs.{runs, touches}
 use Rattle.marks.specs.Marks.{markedBy, marked, maskAt, masksOf, crossedBy, isCrossed, crossedCount}
-use Rattle.topology.specs.Walk.{lowBit, found, remTurn, frTurn, compTurn, walk, first, componentsIn, components}
+use Rattle.topology.specs.Walk.{lowBit, found, remTurn, frTurn, compTurn, walk, first, walksIn, walks, components}
 use Rattle.topology.specs.Flat.{collapses, collapsesAt, pairsCollapse, rowFlat, isFlat}
 use Rattle.topology.specs.Topology.{kindOf, singles, topologyOf}
 use Rattle.topology.specs.Topology as topology
@@ -39,7 +39,7 @@ use Rattle.stages.specs.Samples.{endBy, endsOf, edgesOf, clustersAt, poi
 
 -- `unfolding stagesKey` opens the definition, so that a build computes
 unfoldable pub stagesKey : Unit {0}
-unfolding lt neg add sub mul div ofInt ofBits trailingZeros bit each any sum keep count joined digit isSet mask corners cornerOf du dv dw areNeighbours neighbourMask labelTo tetLabel tetCorner tetPairs tetPair edgeOf edgeIn flat sidesOf mtTable mtRow holeOf flatHoles flatHole inside finite whenFinite known markFraction hold pointFraction crossing isNear sites inBox siteOf uvwOf step ijkOf upward downward acrossAt acrossOf at caseOf tetOk caseNo onEach tetTris cellTris none okAt sideAt vertexAt cornersOf vertexIn resolved proper emitted siteTris slab march runs touches markedBy marked maskAt masksOf crossedBy isCrossed crossedCount lowBit found remTurn frTurn compTurn walk first componentsIn components collapses collapsesAt pairsCollapse rowFlat isFlat kindOf singles topology.caseOf topologyOf reach owned fresh nobody held keys several apart filled siteVertices candidates numbers holds find tableOf bookOf fieldOf meshOf isCrowded crowdedSides some endOf placeBy splitBy crowdedPairs split onCrowded crowdedTris clusterOf owns owners isIn rolled retired retire liveAt regrown rollback given rounds roundsDone built endBy endsOf edgesOf clustersAt pointBy boxOf frameOf along position interpolate edgePoint meanOf positionsOf placeOf pointsOf positionAt
+unfolding lt neg add sub mul div ofInt ofBits trailingZeros bit each any sum keep count joined digit isSet mask corners cornerOf du dv dw areNeighbours neighbourMask labelTo tetLabel tetCorner tetPairs tetPair edgeOf edgeIn flat sidesOf mtTable mtRow holeOf flatHoles flatHole inside finite whenFinite known markFraction hold pointFraction crossing isNear sites inBox siteOf uvwOf step ijkOf upward downward acrossAt acrossOf at caseOf tetOk caseNo onEach tetTris cellTris none okAt sideAt vertexAt cornersOf vertexIn resolved proper emitted siteTris slab march runs touches markedBy marked maskAt masksOf crossedBy isCrossed crossedCount lowBit found remTurn frTurn compTurn walk first walks walksIn components collapses collapsesAt pairsCollapse rowFlat isFlat kindOf singles topology.caseOf topologyOf reach owned fresh nobody held keys several apart filled siteVertices candidates numbers holds find tableOf bookOf fieldOf meshOf isCrowded crowdedSides some endOf placeBy splitBy crowdedPairs split onCrowded crowdedTris clusterOf owns owners isIn rolled retired retire liveAt regrown rollback given rounds roundsDone built endBy endsOf edgesOf clustersAt pointBy boxOf frameOf along position interpolate edgePoint meanOf positionsOf placeOf pointsOf positionAt
 stagesKey = tt
 
 -- numbers by their bits

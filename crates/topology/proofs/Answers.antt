@@ -1,6 +1,6 @@
 -- What the answers of the topology test are: the clusters are a partition of the mask, at most fourteen; what they depend on; and there is one answer. Assumes nothing.
 use mathlib.Core.Path.{_≡_, refl, sym, ap, ap₂, _∙_, subst}
-use mathlib.Core.Bool.{Bool, true, false, _&&_}
+use mathlib.Core.Bool.{Bool, true, false, _&&_, cond}
 use mathlib.Core.Logic.{⊎-elim}
 use mathlib.Core.List.{List, [], _∷_, _++_}
 use Prim.Native.Nat.{ℕ, zero, suc, _+_, _^_, _<_, _≤_}
@@ -19,9 +19,9 @@ use Rattle.samples.specs.declared.Sample.{Sample}
 use Rattle.topology.specs.declared.TopologyCase.{TopologyCase}
 use Rattle.topology.specs.declared.TopologyCase.the-variants.{ClosedSurface, MultiHole, FlatHole, MultiSurface, SimpleSurface, DoNotCluster}
 use Rattle.topology.specs.Parts.{low, Component, Ascending, Parts, Partition}
-use Rattle.topology.specs.Walk.{fourteen, components}
+use Rattle.topology.specs.Walk.{fourteen, components, visits}
 use Rattle.topology.specs.Flat.{endAt, pairsCollapse, rowFlat, isFlat}
-use Rattle.topology.specs.Topology.{Kind, empty, closed, surfaces, holes, single, kindOf, caseBy, singles, clustersIn, result, caseOf, topologyOf, isSingle, asksEnds}
+use Rattle.topology.specs.Topology.{Kind, empty, closed, surfaces, holes, single, kindOf, walksOf, caseBy, singles, clustersIn, result, caseOf, visitsOf, topologyOf, isSingle, asksEnds}
 use Rattle.topology.proofs.Parts.{components-parts, parts-unique}
 use Rattle.topology.proofs.WalkLoops.{components-le}
 use Rattle.topology.proofs.Rows.{off, on, row-edges}
@@ -148,9 +148,9 @@ module _ (near : ℕ) (cluster : Bool) (ends : List Sample) (h : Float) where
 
 -- the fourteen low bits of the mask
 pub depends-low : (a b : ℕ) (cluster : Bool) (ends : List Sample) (h : Float) → fourteen a ≡ fourteen b → topologyOf a cluster ends h ≡ topologyOf b cluster ends h
-unfolding topologyOf caseOf
+unfolding topologyOf caseOf visitsOf
 depends-low a b cluster ends h e =
-    ap (λ (m : ℕ). result (caseBy (kindOf m) cluster (isFlat m ends h)) (clustersIn (caseBy (kindOf m) cluster (isFlat m ends h)) m)) e
+    ap (λ (m : ℕ). result (caseBy (kindOf m) cluster (isFlat m ends h)) (clustersIn (caseBy (kindOf m) cluster (isFlat m ends h)) m) (cond cluster (total visits (walksOf (kindOf m) m)) 0)) e
 
 -- the samples at the ends, only where they are asked for
 unasked : (k : Kind) (cluster f g : Bool) → cluster && isSingle k ≡ false → caseBy k cluster f ≡ caseBy k cluster g
@@ -168,7 +168,7 @@ pub depends-ends : (near : ℕ) (cluster : Bool) (ends ends′ : List Sample) (h
     → topologyOf near cluster ends h ≡ topologyOf near cluster ends′ h′
 unfolding topologyOf caseOf asksEnds
 depends-ends near cluster ends ends′ h h′ e =
-    ap (λ (c : TopologyCase). result c (clustersIn c (fourteen near)))
+    ap (λ (c : TopologyCase). result c (clustersIn c (fourteen near)) (visitsOf near cluster))
     (unasked (kindOf (fourteen near)) cluster (isFlat (fourteen near) ends h) (isFlat (fourteen near) ends′ h′) e)
 
 -- and of these only the fourteen, where they are finite

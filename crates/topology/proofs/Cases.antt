@@ -2,7 +2,7 @@
 use mathlib.Core.Path.{_≡_, refl, sym, ap, ap₂, _∙_, subst}
 use mathlib.Core.Bool.{Bool, true, false, not, cond}
 use mathlib.Core.List.{List, [], _∷_}
-use Prim.Native.Nat.{ℕ, zero, suc, _^_, _<_, _≤_}
+use Prim.Native.Nat.{ℕ, zero, suc, _+_, _^_, _<_, _≤_}
 use native.Mathlib.Omega.{arith}
 use lib.Dec.{eqb, ltb}
 use lib.ListN.{length}
@@ -15,9 +15,9 @@ use Rattle.samples.specs.declared.Sample.{Sample}
 use Rattle.topology.specs.declared.TopologyCase.the-variants.{ClosedSurface, MultiHole, FlatHole, MultiSurface, SimpleSurface, DoNotCluster}
 use Rattle.topology.specs.declared.TopologyCase.{TopologyCase}
 use Rattle.topology.specs.Parts.{low, Parts}
-use Rattle.topology.specs.Walk.{fourteen, componentsIn, components}
+use Rattle.topology.specs.Walk.{fourteen, walksIn, walks, components, visits}
 use Rattle.topology.specs.Flat.{isFlat}
-use Rattle.topology.specs.Topology.{others, Kind, empty, closed, surfaces, holes, single, kindOf, caseBy, singles, clustersIn, result, caseOf, topologyOf}
+use Rattle.topology.specs.Topology.{others, Kind, empty, closed, surfaces, holes, single, kindOf, walksOf, caseBy, singles, clustersIn, result, caseOf, visitsOf, topologyOf}
 use Rattle.topology.proofs.Walk.{low-in}
 use Rattle.topology.proofs.Parts.{components-parts, in-short}
 
@@ -42,7 +42,7 @@ pub one-component : (m : ℕ) → 0 < m → m < 2 ^ 14 → length (components m)
 one-component m p h l = only-part m (components m) p h l (subst (λ (x : ℕ). Parts x (components m)) (fourteen-own m h) (components-parts m))
 
 pub no-component : components 0 ≡ []
-unfolding components componentsIn
+unfolding components walks walksIn
 no-component = refl
 
 -- ---- the kind of a mask
@@ -85,20 +85,27 @@ module _ (m : ℕ) where
 -- ---- the answers
 
 module _ (near : ℕ) (cluster : Bool) (ends : List Sample) (h : Float) where
-  pub by-case : (c : TopologyCase) → caseOf near cluster ends h ≡ c → topologyOf near cluster ends h ≡ result c (clustersIn c (fourteen near))
-  unfolding topologyOf
-  by-case c e = ap (λ (x : TopologyCase). result x (clustersIn x (fourteen near))) e
+  -- by the kind, whether to cluster, and whether the hole is flat: the case, and the masks that were walked
+  by-kind : (k : Kind) (b f : Bool) → kindOf (fourteen near) ≡ k → cluster ≡ b → isFlat (fourteen near) ends h ≡ f
+      → topologyOf near cluster ends h ≡ result (caseBy k b f) (clustersIn (caseBy k b f) (fourteen near)) (cond b (total visits (walksOf k (fourteen near))) 0)
+  unfolding topologyOf caseOf visitsOf
+  by-kind k b f ek eb ef = λ i. result (caseBy (ek i) (eb i) (ef i)) (clustersIn (caseBy (ek i) (eb i) (ef i)) (fourteen near)) (cond (eb i) (total visits (walksOf (ek i) (fourteen near))) 0)
 
-  by-kind : (k : Kind) (b f : Bool) → kindOf (fourteen near) ≡ k → cluster ≡ b → isFlat (fourteen near) ends h ≡ f → caseOf near cluster ends h ≡ caseBy k b f
-  unfolding caseOf
-  by-kind k b f ek eb ef = ap₂ (λ (x : Kind) (y : Bool). caseBy x y (isFlat (fourteen near) ends h)) ek eb ∙ ap (caseBy k b) ef
-
-  pub is-empty : fourteen near ≡ 0 → topologyOf near cluster ends h ≡ result SimpleSurface []
-  is-empty e = by-case SimpleSurface (by-kind empty cluster _ (kind-empty _ e) refl refl) ∙ ap (result SimpleSurface) (ap components e ∙ no-component)
+  pub is-empty : fourteen near ≡ 0 → topologyOf near cluster ends h ≡ result SimpleSurface [] 0
+  unfolding total
+  is-empty e =
+      by-kind empty cluster _ (kind-empty _ e) refl refl
+      ∙ ap₂ (result SimpleSurface) (ap components e ∙ no-component) (either cluster)
+    where
+      either : (b : Bool) → _≡_ {A = ℕ} (cond b 0 0) 0
+      either true = refl
+      either false = refl
 
   module _ (some : fourteen near ≡ 0 → ⊥) where
-    pub is-apart : not cluster ≡ true → topologyOf near cluster ends h ≡ result DoNotCluster (singles (fourteen near))
-    is-apart e = by-case DoNotCluster (by-kind _ false _ refl (negated cluster e) refl ∙ apart (kindOf (fourteen near)) _ (kind-some _ some))
+    pub is-apart : not cluster ≡ true → topologyOf near cluster ends h ≡ result DoNotCluster (singles (fourteen near)) 0
+    is-apart e =
+        by-kind _ false _ refl (negated cluster e) refl
+        ∙ ap (λ (c : TopologyCase). result c (clustersIn c (fourteen near)) 0) (apart (kindOf (fourteen near)) _ (kind-some _ some))
       where
         negated : (b : Bool) → not b ≡ true → b ≡ false
         negated true e = sym e
@@ -119,26 +126,39 @@ module _ (near : ℕ) (cluster : Bool) (ends : List Sample) (h : Float) where
           go true e = refl
           go false e = sym e
 
-      pub is-closed : fourteen near ≡ 0x3FFF → topologyOf near cluster ends h ≡ result ClosedSurface (singles (fourteen near))
-      is-closed e = by-case ClosedSurface (by-kind closed true _ (kind-closed _ some e) is-on refl)
+      pub is-closed : fourteen near ≡ 0x3FFF → topologyOf near cluster ends h ≡ result ClosedSurface (singles (fourteen near)) 0
+      unfolding total
+      is-closed e = by-kind closed true _ (kind-closed _ some e) is-on refl
 
       module _ (gaps : fourteen near ≡ 0x3FFF → ⊥) where
-        pub is-surfaces : 1 < length (components (fourteen near)) → topologyOf near cluster ends h ≡ result MultiSurface (components (fourteen near))
-        is-surfaces l = by-case MultiSurface (by-kind surfaces true _ (kind-surfaces _ some gaps l) is-on refl)
+        abbrev one-walk : ℕ
+        one-walk = visits (fourteen near)
+
+        abbrev two-walks : ℕ
+        two-walks = visits (fourteen near) + visits (others (fourteen near))
+
+        pub is-surfaces : 1 < length (components (fourteen near)) → topologyOf near cluster ends h ≡ result MultiSurface (components (fourteen near)) one-walk
+        unfolding total
+        is-surfaces l = by-kind surfaces true _ (kind-surfaces _ some gaps l) is-on refl ∙ ap (result MultiSurface (components (fourteen near))) (omega arith)
 
         module _ (one : length (components (fourteen near)) ≤ 1) where
-          pub is-holes : (length (components (others (fourteen near))) ≡ 1 → ⊥) → topologyOf near cluster ends h ≡ result MultiHole (singles (fourteen near))
-          is-holes n = by-case MultiHole (by-kind holes true _ (kind-holes _ some gaps one n) is-on refl)
+          both : total visits (fourteen near ∷ others (fourteen near) ∷ []) ≡ two-walks
+          unfolding total
+          both = omega arith
+
+          pub is-holes : (length (components (others (fourteen near))) ≡ 1 → ⊥)
+              → topologyOf near cluster ends h ≡ result MultiHole (singles (fourteen near)) two-walks
+          is-holes n = by-kind holes true _ (kind-holes _ some gaps one n) is-on refl ∙ ap (result MultiHole (singles (fourteen near))) both
 
           module _ (hole : length (components (others (fourteen near))) ≡ 1) where
-            pub is-flat : isFlat (fourteen near) ends h ≡ true → topologyOf near cluster ends h ≡ result FlatHole (singles (fourteen near))
-            is-flat t = by-case FlatHole (by-kind single true true (kind-single _ some gaps one hole) is-on t)
+            pub is-flat : isFlat (fourteen near) ends h ≡ true → topologyOf near cluster ends h ≡ result FlatHole (singles (fourteen near)) two-walks
+            is-flat t = by-kind single true true (kind-single _ some gaps one hole) is-on t ∙ ap (result FlatHole (singles (fourteen near))) both
 
-            pub is-simple : isFlat (fourteen near) ends h ≡ false → topologyOf near cluster ends h ≡ result SimpleSurface (fourteen near ∷ [])
+            pub is-simple : isFlat (fourteen near) ends h ≡ false → topologyOf near cluster ends h ≡ result SimpleSurface (fourteen near ∷ []) two-walks
             is-simple t =
                 let p : 0 < fourteen near = pos (fourteen near) some in
-                by-case SimpleSurface (by-kind single true false (kind-single _ some gaps one hole) is-on t)
-                ∙ ap (result SimpleSurface) (one-component (fourteen near) p (fourteen-lt near) one)
+                by-kind single true false (kind-single _ some gaps one hole) is-on t
+                ∙ ap₂ (result SimpleSurface) (one-component (fourteen near) p (fourteen-lt near) one) both
               where
                 pos : (x : ℕ) → (x ≡ 0 → ⊥) → 0 < x
                 pos zero n = absurd (n refl)

@@ -1,7 +1,7 @@
 -- The walks find the components of a mask (`components-parts`), and there is no other list of them (`parts-unique`). Assumes nothing.
 use mathlib.Core.Path.{_≡_, refl, sym, ap, ap₂, _∙_, subst}
 use mathlib.Core.Logic.{⊎-elim}
-use mathlib.Core.List.{List, [], _∷_}
+use mathlib.Core.List.{List, [], _∷_, map}
 use Prim.Native.Nat.{ℕ, zero, suc, _+_, _-_, _^_, _<_, _≤_}
 use native.Mathlib.Omega.{arith}
 use lib.Dec.{T}
@@ -15,7 +15,7 @@ use Rattle.laws.proofs.Digits.{digit-lt, digit-xor, digit-zero, digit-below, di
 use Rattle.tables.specs.Edges.{areNeighbours}
 use Rattle.tables.proofs.Edges.{neighbours-sym}
 use Rattle.topology.specs.Parts.{low, Path, here, next, Component, Ascending, Parts}
-use Rattle.topology.specs.Walk.{fourteen, first, componentsIn, components}
+use Rattle.topology.specs.Walk.{fourteen, first, walksIn, walks, components}
 use Rattle.topology.proofs.Walk.{Walking, low-in, ones-some, first-end, rest-less}
 
 -- ---- lowest edges
@@ -123,19 +123,19 @@ parts-none : Parts 0 []
 unfolding total All Ascending
 parts-none = record { cover = λ e. sym (digit-zero e); each = tt; order = tt }
 
-in-parts : (n m : ℕ) → m < 2 ^ 14 → onesIn 14 m ≤ n → Parts m (componentsIn n m)
-unfolding componentsIn
+in-parts : (n m : ℕ) → m < 2 ^ 14 → onesIn 14 m ≤ n → Parts m (map (λ w. w .comp) (walksIn n m))
+unfolding walksIn
 in-parts zero zero h l = parts-none
 in-parts zero (suc m) h l = absurd (omega (arith, ones-some (suc m) (omega arith) h))
 in-parts (suc n) zero h l = parts-none
 in-parts (suc n) (suc m) h l =
     let w = first (suc m) in
     let e = first-end (suc m) (omega arith) h in
-    parts-cons (suc m) (w .rest) (w .comp) e (componentsIn n (w .rest))
+    parts-cons (suc m) (w .rest) (w .comp) e (map (λ w. w .comp) (walksIn n (w .rest)))
     (in-parts n (w .rest) (e .rem-short) (omega (arith, rest-less (suc m) (omega arith) h)))
 
 pub components-parts : (m : ℕ) → Parts (fourteen m) (components m)
-unfolding components
+unfolding components walks
 components-parts m = in-parts 14 (fourteen m) (mask-lt m 14) (ones-le 14 (fourteen m))
 
 -- ---- any two lists of the components of a mask are equal

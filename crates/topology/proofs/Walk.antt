@@ -181,25 +181,27 @@ ones-more R s rem fr comp p i = omega (arith, ones-sum3 14 rem fr comp R (i .par
 
 -- ---- the whole walk
 
-pub walk-stop : (n rem comp : ℕ) → walk n rem 0 comp ≡ record { comp = comp; rest = rem }
+pub walk-stop : (n rem comp v : ℕ) → walk n rem 0 comp v ≡ record { comp = comp; rest = rem; visits = v }
 unfolding walk
-walk-stop zero rem comp = refl
-walk-stop (suc n) rem comp = refl
+walk-stop zero rem comp v = refl
+walk-stop (suc n) rem comp v = refl
 
-pub walk-turn : (n rem fr comp : ℕ) → 0 < fr → walk (suc n) rem fr comp ≡ walk n (remTurn rem fr) (frTurn rem fr) (compTurn fr comp)
+pub walk-turn : (n rem fr comp v : ℕ) → 0 < fr → walk (suc n) rem fr comp v ≡ walk n (remTurn rem fr) (frTurn rem fr) (compTurn fr comp) (suc v)
 unfolding walk
-walk-turn n rem zero comp p = absurd (omega arith)
-walk-turn n rem (suc f) comp p = refl
+walk-turn n rem zero comp v p = absurd (omega arith)
+walk-turn n rem (suc f) comp v p = refl
 
-walk-end : (n R s rem fr comp : ℕ) → onesIn 14 R ≤ n + onesIn 14 comp → Walking R s rem fr comp
-    → Walking R s (walk n rem fr comp .rest) 0 (walk n rem fr comp .comp)
-walk-end zero R s rem zero comp l i = rw walk-stop i
-walk-end (suc n) R s rem zero comp l i = rw walk-stop i
-walk-end zero R s rem (suc f) comp l i = absurd (omega (arith, ones-more R s rem (suc f) comp (omega arith) i))
-walk-end (suc n) R s rem (suc f) comp l i =
-    rw (walk-turn n rem (suc f) comp (omega arith))
-    (walk-end n R s (remTurn rem (suc f)) (frTurn rem (suc f)) (compTurn (suc f) comp) (omega (arith, ones-turn R s rem (suc f) comp (omega arith) i))
-    (walking-turn R s rem (suc f) comp (omega arith) i))
+-- at the end the frontier is empty, and there was a visit for each edge that was found
+walk-end : (n R s rem fr comp v : ℕ) → onesIn 14 R ≤ n + onesIn 14 comp → Walking R s rem fr comp → v ≡ onesIn 14 comp
+    → Walking R s (walk n rem fr comp v .rest) 0 (walk n rem fr comp v .comp) × (walk n rem fr comp v .visits ≡ onesIn 14 (walk n rem fr comp v .comp))
+walk-end zero R s rem zero comp v l i e = rw walk-stop (i, e)
+walk-end (suc n) R s rem zero comp v l i e = rw walk-stop (i, e)
+walk-end zero R s rem (suc f) comp v l i e = absurd (omega (arith, ones-more R s rem (suc f) comp (omega arith) i))
+walk-end (suc n) R s rem (suc f) comp v l i e =
+    let more = ones-turn R s rem (suc f) comp (omega arith) i in
+    rw (walk-turn n rem (suc f) comp v (omega arith))
+    (walk-end n R s (remTurn rem (suc f)) (frTurn rem (suc f)) (compTurn (suc f) comp) (suc v) (omega (arith, more))
+    (walking-turn R s rem (suc f) comp (omega arith) i) (omega (arith, more)))
 
 -- ---- from the lowest edge
 
@@ -222,13 +224,20 @@ walking-start m p h =
       closed = λ e f q. absurd (omega (arith, digit-zero e));
     }
 
-pub first-end : (m : ℕ) → 0 < m → m < 2 ^ 14 → Walking m (low m) (first m .rest) 0 (first m .comp)
-unfolding first
-first-end m p h = walk-end 14 m (low m) (bitXor m (2 ^ low m)) (2 ^ low m) 0 (omega (arith, ones-le 14 m)) (walking-start m p h)
+module _ (m : ℕ) (p : 0 < m) (h : m < 2 ^ 14) where
+  whole : Walking m (low m) (first m .rest) 0 (first m .comp) × (first m .visits ≡ onesIn 14 (first m .comp))
+  unfolding first
+  whole = walk-end 14 m (low m) (bitXor m (2 ^ low m)) (2 ^ low m) 0 0 (omega (arith, ones-le 14 m)) (walking-start m p h) (sym (ones-zero 14))
 
--- what is left has fewer edges
-pub rest-less : (m : ℕ) → 0 < m → m < 2 ^ 14 → onesIn 14 (first m .rest) < onesIn 14 m
-rest-less m p h =
-    let i = first-end m p h in
-    let sc : digit (first m .comp) (low m) ≡ 1 = omega (arith, i .seed, digit-zero (low m)) in
-    omega (arith, ones-sum3 14 (first m .rest) 0 (first m .comp) m (i .part), ones-zero 14, ones-pos 14 (first m .comp) (low m) (low-14 m p h) sc)
+  pub first-end : Walking m (low m) (first m .rest) 0 (first m .comp)
+  first-end = whole .0
+
+  -- what it visits and what is left are the mask
+  pub first-visits : first m .visits + onesIn 14 (first m .rest) ≡ onesIn 14 m
+  first-visits = omega (arith, whole .1, ones-sum3 14 (first m .rest) 0 (first m .comp) m (first-end .part), ones-zero 14)
+
+  -- what is left has fewer edges
+  pub rest-less : onesIn 14 (first m .rest) < onesIn 14 m
+  rest-less =
+      let sc : digit (first m .comp) (low m) ≡ 1 = omega (arith, first-end .seed, digit-zero (low m)) in
+      omega (arith, first-visits, whole .1, ones-pos 14 (first m .comp) (low m) (low-14 m p h) sc)

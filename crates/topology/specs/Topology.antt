@@ -6,6 +6,7 @@ use lib.Dec.{eqb, ltb}
 use lib.ListN.{length}
 use lib.Ieee.{Float}
 use lib.Bits.{bitAnd}
+use Rattle.laws.specs.Lists.{total}
 use Rattle.laws.specs.Ranges.{each}
 use Rattle.laws.specs.Filling.{padded}
 use Rattle.laws.specs.Digits.{isSet}
@@ -14,7 +15,7 @@ use Rattle.topology.specs.declared.Clusters.{Clusters}
 use Rattle.topology.specs.declared.TopologyCase.{TopologyCase}
 use Rattle.topology.specs.declared.TopologyCase.the-variants.{ClosedSurface, MultiHole, FlatHole, MultiSurface, SimpleSurface, DoNotCluster}
 use Rattle.topology.specs.declared.TopologyResult.{TopologyResult}
-use Rattle.topology.specs.Walk.{fourteen, components}
+use Rattle.topology.specs.Walk.{fourteen, components, visits}
 use Rattle.topology.specs.Flat.{isFlat}
 
 -- the edges without a near intersection: the others of the fourteen (`others-digit` of proofs/Others)
@@ -36,6 +37,15 @@ kindOf m =
     (cond (eqb m 0x3FFF) closed
     (cond (ltb 1 (length (components m))) surfaces
     (cond (eqb (length (components (others m))) 1) single holes)))
+
+-- The masks that are walked to tell the kind: none, where there are no edges or all fourteen; the mask; and, where it is one surface,
+-- the other edges too.
+abbrev pub walksOf : Kind → ℕ → List ℕ
+walksOf empty m = []
+walksOf closed m = []
+walksOf surfaces m = m ∷ []
+walksOf holes m = m ∷ others m ∷ []
+walksOf single m = m ∷ others m ∷ []
 
 -- the case: by the kind, whether to cluster, and whether the hole is flat
 abbrev pub caseBy : Kind → Bool → Bool → TopologyCase
@@ -67,16 +77,20 @@ clustersIn DoNotCluster m = singles m
 abbrev pub clustersOf : List ℕ → Clusters
 clustersOf cs = record { count = length cs; masks = padded 14 0 cs }
 
-abbrev pub result : TopologyCase → List ℕ → TopologyResult
-result c cs = record { case = c; clusters = clustersOf cs }
+abbrev pub result : TopologyCase → List ℕ → ℕ → TopologyResult
+result c cs v = record { case = c; clusters = clustersOf cs; visits = v }
 
 -- The answer, of a mask of near intersections, whether to cluster, the samples at the fourteen ends and the threshold.
 -- Its clusters are a partition of the mask (`clusters-partition` of proofs/Answers).
 unfoldable pub caseOf : ℕ → Bool → List Sample → Float → TopologyCase
 caseOf near cluster ends h = caseBy (kindOf (fourteen near)) cluster (isFlat (fourteen near) ends h)
 
+-- the edges that the walks of the test visit, together; where it is not to cluster, none is made
+unfoldable pub visitsOf : ℕ → Bool → ℕ
+visitsOf near cluster = cond cluster (total visits (walksOf (kindOf (fourteen near)) (fourteen near))) 0
+
 unfoldable pub topologyOf : ℕ → Bool → List Sample → Float → TopologyResult
-topologyOf near cluster ends h = result (caseOf near cluster ends h) (clustersIn (caseOf near cluster ends h) (fourteen near))
+topologyOf near cluster ends h = result (caseOf near cluster ends h) (clustersIn (caseOf near cluster ends h) (fourteen near)) (visitsOf near cluster)
 
 -- whether the samples at the ends are asked for: only where one surface with one hole is to be clustered
 abbrev pub isSingle : Kind → Bool

@@ -1,9 +1,10 @@
--- The walk over a mask, turn by turn, and the list of what it finds; `Parts` says what that list is. Assumes nothing.
-use mathlib.Core.List.{List, [], _∷_}
+-- The walks over a mask, turn by turn: what they find, of which `Parts` says what it is, and how many edges they take. Assumes nothing.
+use mathlib.Core.List.{List, [], _∷_, map}
 use Prim.Native.Nat.{ℕ, zero, suc, _^_}
 use lib.Bits.{bitAnd, bitOr, bitXor}
 use lib.ListN.{length}
 use Rattle.laws.specs.Filling.{padded}
+use Rattle.laws.specs.Lists.{total}
 use Rattle.tables.specs.Edges.{neighbourMask}
 use Rattle.topology.specs.declared.Components.{Components}
 use Rattle.topology.specs.Parts.{low}
@@ -33,27 +34,36 @@ compTurn fr comp = bitOr comp (2 ^ low fr)
 pub record Walked : Type 0 where
   pub comp : ℕ
   pub rest : ℕ
+  pub visits : ℕ
 
--- turns until the frontier is empty, at most n of them
-unfoldable pub walk : ℕ → ℕ → ℕ → ℕ → Walked
-walk zero rem fr comp = record { comp = comp; rest = rem }
-walk (suc n) rem zero comp = record { comp = comp; rest = rem }
-walk (suc n) rem (suc f) comp = walk n (remTurn rem (suc f)) (frTurn rem (suc f)) (compTurn (suc f) comp)
+-- turns until the frontier is empty, at most n of them; a turn that takes an edge from the frontier is a visit
+unfoldable pub walk : ℕ → ℕ → ℕ → ℕ → ℕ → Walked
+walk zero rem fr comp v = record { comp = comp; rest = rem; visits = v }
+walk (suc n) rem zero comp v = record { comp = comp; rest = rem; visits = v }
+walk (suc n) rem (suc f) comp v = walk n (remTurn rem (suc f)) (frTurn rem (suc f)) (compTurn (suc f) comp) (suc v)
 
 -- the walk from the lowest edge of a mask
 unfoldable pub first : ℕ → Walked
-first m = walk 14 (bitXor m (2 ^ low m)) (2 ^ low m) 0
+first m = walk 14 (bitXor m (2 ^ low m)) (2 ^ low m) 0 0
 
--- what the walks find one after the other, at most n of them
-unfoldable pub componentsIn : ℕ → ℕ → List ℕ
-componentsIn zero m = []
-componentsIn (suc n) zero = []
-componentsIn (suc n) (suc m) = first (suc m) .comp ∷ componentsIn n (first (suc m) .rest)
+-- the walks one after the other, each over what the one before has left, at most n of them
+unfoldable pub walksIn : ℕ → ℕ → List Walked
+walksIn zero m = []
+walksIn (suc n) zero = []
+walksIn (suc n) (suc m) = first (suc m) ∷ walksIn n (first (suc m) .rest)
 
--- the components of a mask's fourteen edges (`components-parts` of proofs/Parts)
+-- those over a mask's fourteen edges
+unfoldable pub walks : ℕ → List Walked
+walks m = walksIn 14 (fourteen m)
+
+-- what they find: the components (`components-parts` of proofs/Parts)
 unfoldable pub components : ℕ → List ℕ
-components m = componentsIn 14 (fourteen m)
+components m = map (λ w. w .comp) (walks m)
 
--- as the walk answers: how many, and fourteen places
+-- how many edges they take from their frontiers, together: as many as the mask has (`visits-ones` of proofs/Visits)
+unfoldable pub visits : ℕ → ℕ
+visits m = total (λ w. w .visits) (walks m)
+
+-- as the walk answers: how many components, in fourteen places, and the visits
 abbrev pub componentsOf : ℕ → Components
-componentsOf m = record { count = length (components m); masks = padded 14 0 (components m) }
+componentsOf m = record { count = length (components m); masks = padded 14 0 (components m); visits = visits m }

@@ -2,7 +2,7 @@
 ghost use Prim.Native.Nat.{_<_};
 ghost use mathlib.Core.Path.{_≡_};
 ghost use Rattle.samples.specs.Sides.{known, isNear};
-ghost use Rattle.topology.specs.Walk.{lowBit, componentsOf};
+ghost use Rattle.topology.specs.Walk.{lowBit, visits, componentsOf};
 ghost use Rattle.topology.specs.Flat.{twoEdges, collapses, pairsCollapse, isFlat};
 ghost use Rattle.topology.specs.Topology.{singles, clustersOf, topologyOf, caseNumber};
 ghost use mathlib.Core.List.{[], _∷_};
@@ -26,9 +26,11 @@ pub struct Clusters {
     pub masks: [u16; 14],
 }
 
+// Beside the case and the clusters, how many edges the walks took from their frontiers.
 pub struct TopologyResult {
     pub case: TopologyCase,
     pub clusters: Clusters,
+    pub visits: usize,
 }
 
 // The case's place among the counts that are printed.
@@ -45,10 +47,11 @@ pub fn case_number(case: TopologyCase) -> usize
     }
 }
 
-// The connected components of a mask, in order of their lowest edge.
+// The connected components of a mask, in order of their lowest edge, and how many edges were taken from the frontier to find them.
 pub struct Components {
     pub count: usize,
     pub masks: [u16; 14],
+    pub visits: usize,
 }
 
 // The lowest set bit of x; 0 for 0.
@@ -65,6 +68,7 @@ pub fn connected_components_masks(edge_mask: u16) -> Components
     let mut remaining = edge_mask & ALL14_MASK;
     let mut masks = [0u16; 14];
     let mut count: usize = 0;
+    let mut visits: usize = 0;
     'comps: while remaining != 0 {
         let seed = lowbit(remaining);
         remaining ^= seed;
@@ -73,6 +77,7 @@ pub fn connected_components_masks(edge_mask: u16) -> Components
         'walk: while frontier != 0 {
             let b = lowbit(frontier);
             frontier ^= b;
+            visits += 1;
             let e = u16::trailing_zeros(b) as usize;
             comp |= b;
             let nbrs = tables::neighbours_in(e, remaining);
@@ -82,7 +87,18 @@ pub fn connected_components_masks(edge_mask: u16) -> Components
         masks[count] = comp;
         count += 1;
     }
-    Components { count, masks }
+    Components {
+        count,
+        masks,
+        visits,
+    }
+}
+
+// How many edges the walks over a mask will take, before any is made.
+pub fn visit_total(mask: u16) -> usize
+    ensures { λ r. ⌜ r ≡ visits «mask» ⌝ }
+{
+    u16::count_ones(mask & ALL14_MASK) as usize
 }
 
 pub struct TwoEdges {
@@ -230,6 +246,7 @@ pub fn test_topology(near_mask: u16, cluster: bool, ends: [Sample; 14], h: f64) 
         return TopologyResult {
             case: TopologyCase::SimpleSurface,
             clusters,
+            visits: 0,
         };
     }
     if !cluster {
@@ -237,6 +254,7 @@ pub fn test_topology(near_mask: u16, cluster: bool, ends: [Sample; 14], h: f64) 
         return TopologyResult {
             case: TopologyCase::DoNotCluster,
             clusters,
+            visits: 0,
         };
     }
     if m == ALL14_MASK {
@@ -244,6 +262,7 @@ pub fn test_topology(near_mask: u16, cluster: bool, ends: [Sample; 14], h: f64) 
         return TopologyResult {
             case: TopologyCase::ClosedSurface,
             clusters,
+            visits: 0,
         };
     }
     let surfaces = connected_components_masks(m);
@@ -254,14 +273,17 @@ pub fn test_topology(near_mask: u16, cluster: bool, ends: [Sample; 14], h: f64) 
         return TopologyResult {
             case: TopologyCase::MultiSurface,
             clusters,
+            visits: surfaces.visits,
         };
     }
     let holes = connected_components_masks(ALL14_MASK & !m);
+    let total = surfaces.visits + holes.visits;
     if holes.count != 1 {
         let clusters = do_not_cluster(m);
         return TopologyResult {
             case: TopologyCase::MultiHole,
             clusters,
+            visits: total,
         };
     }
     if is_flat_hole(m, ends, h) {
@@ -269,11 +291,13 @@ pub fn test_topology(near_mask: u16, cluster: bool, ends: [Sample; 14], h: f64) 
         return TopologyResult {
             case: TopologyCase::FlatHole,
             clusters,
+            visits: total,
         };
     }
     let clusters = one_cluster(m);
     TopologyResult {
         case: TopologyCase::SimpleSurface,
         clusters,
+        visits: total,
     }
 }

@@ -1,4 +1,4 @@
-// Prints the case and the clusters of every 61st mask, with samples at the ends that a fixed generator makes.
+// Prints the case and the clusters of every 61st mask, and the edges that the walks took, with samples at the ends that a fixed generator makes.
 // The generator goes through all masks and ends in order, so that the lines are those of a run over all masks.
 use samples::Sample;
 
@@ -67,6 +67,7 @@ fn show(mask: u16, ends: [Sample; 14]) {
     let r = topology::test_topology(mask, true, ends, samples::INSIDE);
     let case = r.case;
     let clusters = r.clusters;
+    let visits = r.visits;
     let count = clusters.count;
     let masks = clusters.masks;
     io::print_hex(1, wide(mask), 4);
@@ -75,6 +76,8 @@ fn show(mask: u16, ends: [Sample; 14]) {
     io::write_all(1, b" ");
     io::print_decimal(1, count as u64);
     streams::mask_words(count, masks);
+    io::write_all(1, b" ");
+    io::print_decimal(1, visits as u64);
     io::write_all(1, b"\n");
 }
 

@@ -22,7 +22,7 @@ use Rattle.topology.specs.declared.TopologyCase.{TopologyCase}
 use Rattle.topology.specs.declared.TopologyCase.the-variants.{ClosedSurface, MultiHole, FlatHole, MultiSurface, SimpleSurface, DoNotCluster}
 use Rattle.topology.specs.declared.TopologyResult.{TopologyResult}
 use Rattle.topology.specs.Topology.{caseNumber, caseOf, clustersIn, kindOf, topologyOf}
-use Rattle.topology.specs.Walk.{components, componentsIn, fourteen}
+use Rattle.topology.specs.Walk.{components, fourteen, walks, walksIn}
 use Rattle.topology.proofs.Answers.{clusters-le}
 use Rattle.stages.specs.Vertices.{Vertex, filled, fresh, siteVertices}
 use Rattle.stages.specs.Samples.{boxOf, clustersAt, edgesOf, endsOf, caseCount, isCase}
@@ -71,7 +71,7 @@ module _ (n : Sides) (S : List Float) (h : Float) (cluster : Bool) (s : ℕ) whe
   count-low r e = rw e (clusters-le (maskAt n S h s) cluster (endsOf n S s) h)
 
   empty : topologyOf 0 cluster (endsOf n S s) h .clusters .count ≡ 0
-  unfolding topologyOf caseOf kindOf components componentsIn
+  unfolding topologyOf caseOf kindOf components walks walksIn
   empty = refl
 
   -- WITHOUT MARKS A SITE HAS NONE

@@ -1,6 +1,6 @@
 -- `api::spoonthicket_topology` meets its contract. Assumes nothing.
 use mathlib.Core.Path.{ap, _∙_}
-use mathlib.Core.List.{List}
+use mathlib.Core.List.{List, [], _∷_}
 use lib.Dec.{eqb}
 use Rattle.samples.specs.Sides.{base}
 use Rattle.samples.specs.declared.Sample.{Sample}
@@ -21,10 +21,15 @@ case-number-requires c κs = search needs
 
 returns : tie.Need-returns
 returns c =
-    let a = c .before .before .before .before .args in
-    let known = ap (λ (l : List Sample). topologyOf (a .mask) (eqb (a .method) 1) l base) (c .before .before .before .ends-at .ensures) in
-    let found = c .before .before .test-topology .ensures ∙ known in
-    record { case = c .case-number .ensures ∙ ap (λ (r : TopologyResult). caseNumber (r .case)) found; clusters = ap (λ (r : TopologyResult). r .clusters .masks) found }
+    let t = c .before .before .before in
+    let a = t .before .before .args in
+    let known = ap (λ (l : List Sample). topologyOf (a .mask) (eqb (a .method) 1) l base) (t .before .ends-at .ensures) in
+    let found = t .test-topology .ensures ∙ known in
+    record {
+      case = c .case-number .ensures ∙ ap (λ (r : TopologyResult). caseNumber (r .case)) found;
+      clusters = ap (λ (r : TopologyResult). r .clusters .masks) found;
+      visits = ap (λ (r : TopologyResult). r .visits ∷ []) found;
+    }
 
 pub spoonthicket-topology-spec : {M : Type 1} → statement M
 spoonthicket-topology-spec =
