@@ -79,7 +79,7 @@ size_t spoonthicket_build(
  * 4 simple, 5 not clustered: a method other than 1, and a mask with one of the fourteen bits; without any it is 4 for every method.
  * clusters gets a mask for each cluster, in order, and zeros behind them. visits gets how many edges the walks of the test took from
  * their frontiers, together: never more than 14; 0 where no walk was made (none of the fourteen bits, all of them, or a method other
- * than 1), as many as the mask has bits for case 3, and 14 for the others.
+ * than 1), the number of ones among the fourteen bits for case 3, and 14 for the others.
  */
 size_t spoonthicket_topology(uint16_t mask, size_t method, const double ends[14], uint16_t clusters[14], size_t visits[1]);
 
