@@ -8,8 +8,9 @@ use native.Mathlib.Nat.{pow-suc, not-suc-le-zero}
 use native.Mathlib.Omega.{arith}
 use borrow.Author.Tests.{eq-eqb, ne-eqb}
 use lib.Dec.{eqb}
-use lib.Bits.{bitAnd, bitOr, bitXor, and-step, or-step, xor-step, differ, xor-lt}
+use lib.Bits.{bitAnd, bitOr, bitXor, and-step, or-step, xor-step, differ, and-lt, xor-lt}
 use lib.Count.{trailingZeros, under, ones, onesIn, ones-step}
+use lib.Pow.{pow-lt}
 use Rattle.laws.specs.Bools.{bit}
 use Rattle.laws.specs.Digits.{digit, isSet, mask}
 use Rattle.laws.proofs.Bools.{bit-le}
@@ -280,6 +281,22 @@ and-neg (suc k) x r p q h =
     and-step x r
     ∙ omega (arith, compl k (x / 2) (r / 2) s)
     ∙ ap (λ (t : ℕ). 2 ^ t) (sym (under-odd x (trailingZeros k (x / 2)) o))) (parity x)
+
+-- with one taken off, it keeps all set digits but the lowest: x & (x - 1)
+pub and-less : (k x : ℕ) → 0 < x → x < 2 ^ k → bitAnd x (x - 1) ≡ bitXor x (2 ^ trailingZeros k x)
+and-less k x p h =
+    digit-ext k (bitAnd x (x - 1)) (bitXor x (2 ^ l)) (and-lt k x (x - 1) h (omega arith)) (xor-lt k x (2 ^ l) h (pow-lt (low-lt k k x p h h)))
+    (λ e b. omega (
+      arith,
+      digit-and x (x - 1) e,
+      digit-xor x (2 ^ l) e,
+      sym (ap (λ (m : ℕ). digit m e) (and-neg k x (2 ^ k - x) p (omega arith) (omega arith))) ∙ digit-and x (2 ^ k - x) e,
+      digit-compl k (x - 1) (2 ^ k - x) e (omega arith) b,
+      digit-lt x e,
+    ))
+  where
+    l : ℕ
+    l = trailingZeros k x
 
 -- ---- the number of set digits, of the k lowest
 

@@ -15,7 +15,7 @@ use Rattle.laws.specs.Inner.Visits.{setPlaces, Visiting}
 use Rattle.laws.specs.Ranges.{each}
 use Rattle.laws.specs.Lists.{keep}
 use Rattle.laws.proofs.Ranges.{eq-or, each-keep, each-same, each-nil, each-split}
-use Rattle.laws.proofs.Digits.{digit-lt, digit-zero, digit-and, digit-xor, digit-all, digit-pow-same, digit-pow-other, digit-set, digit-unset, low-set, low-least, low-lt, ones-sum, ones-pow}
+use Rattle.laws.proofs.Digits.{digit-lt, digit-zero, digit-and, digit-xor, digit-all, digit-pow-same, digit-pow-other, digit-set, digit-unset, low-set, low-least, low-lt, and-less, ones-sum, ones-pow}
 
 -- ---- one digit taken off: it is no longer set, and the others stay
 
@@ -69,6 +69,10 @@ module _ (w k m : ℕ) (fits : k ≤ w) (some : 0 < m) (short : m < 2 ^ k) where
   -- as a mask: the language's 1 << e
   pub low-bit : 1 * 2 ^ trailingZeros w m % 2 ^ w ≡ 2 ^ trailingZeros w m
   low-bit = rw one-mul (mod-eq-of-lt (pow-lt {i = trailingZeros w m} {j = w} (omega (arith, low-here))))
+
+  -- taken off by the language's m & (m - 1)
+  pub low-off : bitAnd m (m - 1) ≡ bitXor m (2 ^ trailingZeros w m)
+  low-off = and-less w m some whole
 
   pub off-short : bitXor m (2 ^ trailingZeros w m) < 2 ^ k
   off-short = xor-lt k m (2 ^ trailingZeros w m) short (pow-lt low-here)

@@ -142,7 +142,7 @@ pub fn neighbours_in(e: usize, mask: u16) -> u16
     let mut found: u16 = 0;
     while left != 0 {
         let f = u16::trailing_zeros(left) as usize;
-        left ^= 1u16 << f;
+        left &= left - 1;
         let g = offset_of(rows[f]);
         let near = differ_by_delta(d, g) as u16;
         found |= near << f;

@@ -42,7 +42,7 @@ walk zero rem fr comp v = record { comp = comp; rest = rem; visits = v }
 walk (suc n) rem zero comp v = record { comp = comp; rest = rem; visits = v }
 walk (suc n) rem (suc f) comp v = walk n (remTurn rem (suc f)) (frTurn rem (suc f)) (compTurn (suc f) comp) (suc v)
 
--- the walk from the lowest edge of a mask
+-- the walk from the lowest edge of a mask; fourteen turns are enough (`first-end` of proofs/Walk: the frontier is empty at the end)
 unfoldable pub first : ℕ → Walked
 first m = walk 14 (bitXor m (2 ^ low m)) (2 ^ low m) 0 0
 

@@ -1,9 +1,10 @@
 -- `tables::neighbours_in` meets its contract. Assumes nothing.
 use mathlib.Core.Path.{_≡_, _∙_}
-use Prim.Native.Nat.{_*_, _^_, _<_, _%_}
+use Prim.Native.Nat.{_-_, _^_, _<_}
 use native.Mathlib.Omega.{arith}
+use lib.Bits.{bitAnd, bitXor}
 use lib.Count.{trailingZeros, onesIn}
-use Rattle.laws.proofs.Visits.{low-here, low-bit, off-less}
+use Rattle.laws.proofs.Visits.{low-here, low-off, off-less}
 use Rattle.tables.specs.Edges.{deltas, delta, areNeighbours}
 use Rattle.tables.proofs.Source.{row-delta}
 use Rattle.tables.proofs.Neighbours.{edge-small, differ-neighbours, Asking, ask-start, ask-turn, ask-end}
@@ -38,8 +39,8 @@ module _ (c : tie.In-loop Inv-loop μ-loop) where
   some : 0 < c .before .loop .left
   some = omega arith
 
-  bit : 1 * 2 ^ trailingZeros 16 (c .before .loop .left) % 65536 ≡ 2 ^ trailingZeros 16 (c .before .loop .left)
-  bit = low-bit 16 14 _ (omega arith) some (c .before .loop .inv .short)
+  off : bitAnd (c .before .loop .left) (c .before .loop .left - 1) ≡ bitXor (c .before .loop .left) (2 ^ trailingZeros 16 (c .before .loop .left))
+  off = low-off 16 14 _ (omega arith) some (c .before .loop .inv .short)
 
   edge : trailingZeros 16 (c .before .loop .left) < 14
   edge = low-here 16 14 _ (omega arith) some (c .before .loop .inv .short)
@@ -60,11 +61,8 @@ asked c =
 cast-f : tie.Need-cast-f Inv-loop μ-loop
 cast-f c = omega (arith, edge c)
 
-cast-left : tie.Need-cast-left Inv-loop μ-loop
-cast-left c = omega (arith, edge c)
-
-shl-left : tie.Need-shl-left Inv-loop μ-loop
-shl-left c = omega (arith, edge c)
+sub-left : tie.Need-sub-left Inv-loop μ-loop
+sub-left c = omega (arith, some c)
 
 mul-offset-of-2 : tie.Need-mul-offset-of-2 Inv-loop μ-loop
 mul-offset-of-2 c = omega (arith, edge c)
@@ -91,10 +89,10 @@ shl-found : tie.Need-shl-found Inv-loop μ-loop
 shl-found c = omega (arith, edge (c .before .before .before))
 
 loop-less : tie.Need-loop-less Inv-loop μ-loop
-loop-less c = let w = c .before .before .before in rw (bit w) (off-less 16 14 _ (omega arith) (some w) (w .before .loop .inv .short))
+loop-less c = let w = c .before .before .before in rw (off w) (off-less 16 14 _ (omega arith) (some w) (w .before .loop .inv .short))
 
 loop-again : tie.Need-loop-again Inv-loop μ-loop
-loop-again c = let w = c .before .before .before in rw (bit w) (ask-turn _ _ _ _ (some w) (w .before .loop .inv) (c .differ-by-delta .result) (asked c))
+loop-again c = let w = c .before .before .before in rw (off w) (ask-turn _ _ _ _ (some w) (w .before .loop .inv) (c .differ-by-delta .result) (asked c))
 
 returns : tie.Need-returns Inv-loop μ-loop
 returns c = ask-end _ _ _ _ (c .loop-test .left) (c .before .loop .inv)
@@ -102,5 +100,5 @@ returns c = ask-end _ _ _ _ (c .loop-test .left) (c .before .loop .inv)
 pub neighbours-in-spec : {M : Type 1} → statement M
 neighbours-in-spec =
     tie.close
-    (tie.spec Inv-loop μ-loop mul-offset-of array-copy-out-offset-of offset-of-requires loop-holds cast-f cast-left shl-left mul-offset-of-2
+    (tie.spec Inv-loop μ-loop mul-offset-of array-copy-out-offset-of offset-of-requires loop-holds cast-f sub-left mul-offset-of-2
     array-copy-out-offset-of-2 offset-of-requires-2 differ-by-delta-requires cast-near cast-found shl-found loop-less loop-again returns)
