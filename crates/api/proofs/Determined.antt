@@ -19,10 +19,10 @@ use Rattle.api.proofs.spoonthicket_ply_sizes.Reads as spoonthicket-ply-
 use Rattle.api.proofs.spoonthicket_ply_read.Reads as spoonthicket-ply-read
 use Rattle.api.proofs.spoonthicket_volume.Reads as spoonthicket-volume
 
-pub spoonthicket-build-determined : OneOutcome {B = Lists × List ℕ} (λ κ e. (lists (now (e .1 .1 .1 .1 .1 .1 .1 .0)) (now (e .1 .1 .1 .1 .1 .1 .1 .1 .0)) (now (e .1 .1 .1 .1 .1 .1 .1 .1 .1 .0)) (now (e .1 .1 .1 .1 .1 .1 .1 .1 .1 .1 .0)) (now (e .1 .1 .1 .1 .1 .1 .1 .1 .1 .1 .1 .0)) (now (e .1 .1 .1 .1 .1 .1 .1 .1 .1 .1 .1 .1 .0)), now (e .1 .1 .1 .1 .1 .1 .1 .1 .1 .1 .1 .1 .1 .0))) spoonthicket-build.Post
+pub spoonthicket-build-determined : OneOutcome {B = Lists × List ℕ} (λ κ e. (lists (now (e .1 .1 .1 .1 .1 .1 .1 .1 .0)) (now (e .1 .1 .1 .1 .1 .1 .1 .1 .1 .0)) (now (e .1 .1 .1 .1 .1 .1 .1 .1 .1 .1 .0)) (now (e .1 .1 .1 .1 .1 .1 .1 .1 .1 .1 .1 .0)) (now (e .1 .1 .1 .1 .1 .1 .1 .1 .1 .1 .1 .1 .0)) (now (e .1 .1 .1 .1 .1 .1 .1 .1 .1 .1 .1 .1 .1 .0)), now (e .1 .1 .1 .1 .1 .1 .1 .1 .1 .1 .1 .1 .1 .1 .0))) spoonthicket-build.Post
 spoonthicket-build-determined κ a y z e f p q = let u = call-unique p q in (u .1, λ i. (u .0 i, u .2 i))
 
-pub spoonthicket-topology-determined : OneOutcome {B = List ℕ × List ℕ} (λ κ e. (now (e .1 .1 .1 .0), now (e .1 .1 .1 .1 .0))) spoonthicket-topology.Post
+pub spoonthicket-topology-determined : OneOutcome {B = List ℕ × List ℕ} (λ κ e. (now (e .1 .1 .1 .1 .0), now (e .1 .1 .1 .1 .1 .0))) spoonthicket-topology.Post
 spoonthicket-topology-determined κ a y z e f p q = let u = topology-unique p q in (u .0, λ i. (u .1 i, u .2 i))
 
 pub spoonthicket-visits-determined : OneAnswer spoonthicket-visits.Post

@@ -16,15 +16,15 @@ use Rattle.api.specs.Files.{PlyWritten, PlySized, PlyRead}
 use Rattle.api.specs.Volumes.{VolumeTold}
 
 -- ANY TWO CONFORMING ANSWERS ARE EQUAL: that of `spoonthicket_build`
-pub call-unique : {nu nv nw method R : ℕ} {f S : List Float} {l l₁ l₂ : Lists} {r q : ℕ} {c d : List ℕ} → CallOf nu nv nw method R f S l l₁ r c
-    → CallOf nu nv nw method R f S l l₂ q d → (l₁ ≡ l₂) × (r ≡ q) × (c ≡ d)
+pub call-unique : {nu nv nw method R : ℕ} {h : Float} {f S : List Float} {l l₁ l₂ : Lists} {r q : ℕ} {c d : List ℕ} → CallOf nu nv nw method R h f S l l₁ r c
+    → CallOf nu nv nw method R h f S l l₂ q d → (l₁ ≡ l₂) × (r ≡ q) × (c ≡ d)
 call-unique a b =
     let u = build-unique (a .is) (b .is) in
     (u .1, a .status ∙ ap (λ (z : Answer). z .status) (u .0) ∙ sym (b .status), a .counts ∙ ap countsOf (u .0) ∙ sym (b .counts))
 
 -- that of `spoonthicket_topology`; that of `spoonthicket_sort` is `sort-unique` of sort
-pub topology-unique : {mask method : ℕ} {ends : List Float} {r q : ℕ} {c d v w : List ℕ} → TopologyTold mask method ends r c v
-    → TopologyTold mask method ends q d w → (r ≡ q) × (c ≡ d) × (v ≡ w)
+pub topology-unique : {mask method : ℕ} {h : Float} {ends : List Float} {r q : ℕ} {c d v w : List ℕ} → TopologyTold mask method h ends r c v
+    → TopologyTold mask method h ends q d w → (r ≡ q) × (c ≡ d) × (v ≡ w)
 topology-unique a b = (a .case ∙ sym (b .case), a .clusters ∙ sym (b .clusters), a .visits ∙ sym (b .visits))
 
 -- those of the functions on PLY files

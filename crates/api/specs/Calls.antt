@@ -7,7 +7,6 @@ use lib.Ieee.{Float}
 use Rattle.laws.specs.Ranges.{each}
 use Rattle.samples.specs.declared.Sample.{Sample}
 use Rattle.samples.specs.declared.Sample.the-variants.{Value}
-use Rattle.samples.specs.Sides.{base}
 use Rattle.marks.specs.Marks.{sample}
 use Rattle.topology.specs.Topology.{topologyOf, caseNumber}
 use Rattle.points.specs.declared.Frame.{Frame}
@@ -26,14 +25,14 @@ endsAt l = each 14 (λ e. Value (sample l e) ∷ [])
 -- ---- the promises
 
 -- a call of the build in the lists l, which l′ are afterwards: r is the answer's number, and the list c has its counts
-pub record CallOf (nu nv nw method R : ℕ) (f S : List Float) (l l′ : Lists) (r : ℕ) (c : List ℕ) : Type 0 where
+pub record CallOf (nu nv nw method R : ℕ) (inside : Float) (f S : List Float) (l l′ : Lists) (r : ℕ) (c : List ℕ) : Type 0 where
   pub answer : Answer
-  pub is : BuildIn (record { nu = nu; nv = nv; nw = nw }) method R (frameAt f) S l l′ answer
+  pub is : BuildIn (record { nu = nu; nv = nv; nw = nw }) method R inside (frameAt f) S l l′ answer
   pub status : r ≡ answer .status
   pub counts : c ≡ countsOf answer
 
 -- a call of the topology test: r is the case's number, the list c has the clusters, and the list v the visits
-pub record TopologyTold (mask method : ℕ) (ends : List Float) (r : ℕ) (c v : List ℕ) : Type 0 where
-  pub case : r ≡ caseNumber (topologyOf mask (eqb method 1) (endsAt ends) base .case)
-  pub clusters : c ≡ topologyOf mask (eqb method 1) (endsAt ends) base .clusters .masks
-  pub visits : v ≡ topologyOf mask (eqb method 1) (endsAt ends) base .visits ∷ []
+pub record TopologyTold (mask method : ℕ) (inside : Float) (ends : List Float) (r : ℕ) (c v : List ℕ) : Type 0 where
+  pub case : r ≡ caseNumber (topologyOf mask (eqb method 1) (endsAt ends) inside .case)
+  pub clusters : c ≡ topologyOf mask (eqb method 1) (endsAt ends) inside .clusters .masks
+  pub visits : v ≡ topologyOf mask (eqb method 1) (endsAt ends) inside .visits ∷ []

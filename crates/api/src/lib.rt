@@ -52,7 +52,7 @@ fn counts_of(a: Answer) -> [usize; 10]
     ]
 }
 
-// The build. The answer is the number of docs/SCOPE.md, S9.2: 0 done, else a refusal, which leaves the six lists as they were and gives ten zeros.
+// The build, inside being below -inside. The answer is the number of docs/SCOPE.md, S9.2: 0 done, else a refusal, which leaves the six lists as they were and gives ten zeros.
 #[no_mangle]
 pub extern "C" fn spoonthicket_build(
     nu: usize,
@@ -60,6 +60,7 @@ pub extern "C" fn spoonthicket_build(
     nw: usize,
     method: usize,
     rounds: usize,
+    inside: f64,
     frame: &[f64; 6],
     samples: &[f64],
     masks: &mut [u16],
@@ -70,13 +71,14 @@ pub extern "C" fn spoonthicket_build(
     edges: &mut [u32],
     counts: &mut [usize; 10],
 ) -> usize
-    ensures { λ r. ⌜ CallOf nu nv nw method rounds (now (frame .entry)) (now (samples .entry)) (lists (now (masks .entry)) (now (table .entry)) (now (vertices .entry)) (now (book .entry)) (now (triangles .entry)) (now (edges .entry))) (lists (now (masks .exit)) (now (table .exit)) (now (vertices .exit)) (now (book .exit)) (now (triangles .exit)) (now (edges .exit))) r (now (counts .exit)) ⌝ }
+    ensures { λ r. ⌜ CallOf nu nv nw method rounds inside (now (frame .entry)) (now (samples .entry)) (lists (now (masks .entry)) (now (table .entry)) (now (vertices .entry)) (now (book .entry)) (now (triangles .entry)) (now (edges .entry))) (lists (now (masks .exit)) (now (table .exit)) (now (vertices .exit)) (now (book .exit)) (now (triangles .exit)) (now (edges .exit))) r (now (counts .exit)) ⌝ }
 {
     let at = frame_at(frame);
     let answer = build::build(
         Sides { nu, nv, nw },
         method,
         rounds,
+        inside,
         at,
         samples,
         masks,
@@ -101,19 +103,20 @@ fn ends_at(ends: &[f64; 14]) -> [Sample; 14]
     known
 }
 
-// The topology test of one mask: the case's number; the clusters' masks, zeros behind them; and how many edges its walks took from their frontiers.
+// The topology test of one mask, with any threshold: the case's number; the clusters' masks, zeros behind them; and how many edges its walks took from their frontiers.
 #[no_mangle]
 pub extern "C" fn spoonthicket_topology(
     mask: u16,
     method: usize,
+    inside: f64,
     ends: &[f64; 14],
     clusters: &mut [u16; 14],
     visits: &mut [usize; 1],
 ) -> usize
-    ensures { λ r. ⌜ TopologyTold «mask» method (now (ends .entry)) r (now (clusters .exit)) (now (visits .exit)) ⌝ }
+    ensures { λ r. ⌜ TopologyTold «mask» method inside (now (ends .entry)) r (now (clusters .exit)) (now (visits .exit)) ⌝ }
 {
     let known = ends_at(ends);
-    let found = topology::test_topology(mask, method == 1, known, samples::INSIDE);
+    let found = topology::test_topology(mask, method == 1, known, inside);
     let masks = found.clusters.masks;
     *clusters = masks;
     *visits = [found.visits];

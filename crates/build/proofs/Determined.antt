@@ -10,5 +10,5 @@ use Rattle.build.proofs.build.Reads as build
 pub refused-determined : OneAnswer refused.Post
 refused-determined κ a y z e f p q = p ∙ sym q
 
-pub build-determined : OneOutcome (λ κ e. lists (now (e .1 .1 .1 .1 .1 .0)) (now (e .1 .1 .1 .1 .1 .1 .0)) (now (e .1 .1 .1 .1 .1 .1 .1 .0)) (now (e .1 .1 .1 .1 .1 .1 .1 .1 .0)) (now (e .1 .1 .1 .1 .1 .1 .1 .1 .1 .0)) (now (e .1 .1 .1 .1 .1 .1 .1 .1 .1 .1 .0))) build.Post
+pub build-determined : OneOutcome (λ κ e. lists (now (e .1 .1 .1 .1 .1 .1 .0)) (now (e .1 .1 .1 .1 .1 .1 .1 .0)) (now (e .1 .1 .1 .1 .1 .1 .1 .1 .0)) (now (e .1 .1 .1 .1 .1 .1 .1 .1 .1 .0)) (now (e .1 .1 .1 .1 .1 .1 .1 .1 .1 .1 .0)) (now (e .1 .1 .1 .1 .1 .1 .1 .1 .1 .1 .1 .0))) build.Post
 build-determined κ a y z e f p q = build-unique p q

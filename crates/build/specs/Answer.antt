@@ -8,7 +8,6 @@ use lib.Dec.{eqb}
 use lib.ListN.{length, drop, replicate}
 use lib.Ieee.{Float}
 use Rattle.laws.specs.Triangles.{flat}
-use Rattle.samples.specs.Sides.{base}
 use Rattle.lattice.specs.declared.Sides.{Sides}
 use Rattle.lattice.specs.Sites.{sites, cells}
 use Rattle.marks.specs.Marks.{masksOf, crossedCount}
@@ -33,9 +32,9 @@ pub record Order : Type 0 where
   pub lent : Lengths
   pub threshold : Float
 
--- an order with the threshold of docs/SCOPE.md, S3.1, in lists of such lengths
-abbrev pub order : Sides → ℕ → ℕ → Frame → List Float → Lengths → Order
-order n method R f S L = record { sides = n; method = method; rounds = R; frame = f; samples = S; lent = L; threshold = base }
+-- an order with the threshold h (docs/SCOPE.md, S3.1), in lists of such lengths
+abbrev pub order : Sides → ℕ → ℕ → Float → Frame → List Float → Lengths → Order
+order n method R h f S L = record { sides = n; method = method; rounds = R; frame = f; samples = S; lent = L; threshold = h }
 
 abbrev pub status : Order → ℕ
 status o = statusOf (o .sides) (o .method) (o .rounds) (o .frame) (o .samples) (o .lent) (o .threshold)
@@ -148,5 +147,5 @@ pub record BuildOf (o : Order) (l l′ : Lists) (a : Answer) : Type 0 where
   pub after : l′ ≡ listsAfter o l
 
 -- the same of what a caller hands over
-abbrev pub BuildIn : Sides → ℕ → ℕ → Frame → List Float → Lists → Lists → Answer → Type 0
-BuildIn n method R f S l l′ a = BuildOf (order n method R f S (lengthsOf l)) l l′ a
+abbrev pub BuildIn : Sides → ℕ → ℕ → Float → Frame → List Float → Lists → Lists → Answer → Type 0
+BuildIn n method R h f S l l′ a = BuildOf (order n method R h f S (lengthsOf l)) l l′ a

@@ -98,11 +98,12 @@ fn grant(
     counted(crossed, made)
 }
 
-// The build. Nothing is stored before all that can be refused is tested.
+// The build, inside being below minus the threshold. Nothing is stored before all that can be refused is tested.
 pub fn build(
     n: Sides,
     method: usize,
     rounds: usize,
+    threshold: f64,
     frame: Frame,
     samples: &[f64],
     masks: &mut [u16],
@@ -112,7 +113,7 @@ pub fn build(
     tris: &mut [u32],
     edges: &mut [u32],
 ) -> Answer
-    ensures { λ r. ⌜ BuildIn n method rounds frame (now (samples .entry)) (lists (now (masks .entry)) (now (table .entry)) (now (positions .entry)) (now (book .entry)) (now (tris .entry)) (now (edges .entry))) (lists (now (masks .exit)) (now (table .exit)) (now (positions .exit)) (now (book .exit)) (now (tris .exit)) (now (edges .exit))) r ⌝ }
+    ensures { λ r. ⌜ BuildIn n method rounds threshold frame (now (samples .entry)) (lists (now (masks .entry)) (now (table .entry)) (now (positions .entry)) (now (book .entry)) (now (tris .entry)) (now (edges .entry))) (lists (now (masks .exit)) (now (table .exit)) (now (positions .exit)) (now (book .exit)) (now (tris .exit)) (now (edges .exit))) r ⌝ }
 {
     let lent = Lengths {
         masks: masks.len(),
@@ -122,7 +123,6 @@ pub fn build(
         triangles: tris.len(),
         edges: edges.len(),
     };
-    let threshold = samples::INSIDE;
     let reply = refusals::request(n, method, rounds, frame, samples, lent, threshold);
     if reply.status != 0 {
         return refused(reply.status);

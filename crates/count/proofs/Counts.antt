@@ -1,14 +1,15 @@
 -- What the count program prints is determined by its input. Assumes nothing.
-use mathlib.Core.Path.{_≡_, refl, ap₂}
-use mathlib.Core.List.{List}
+use mathlib.Core.Path.{_≡_, refl, sym, ap₂, _∙_}
+use mathlib.Core.List.{List, [], _∷_}
 use Prim.Native.Nat.{ℕ, _<_}
 use native.Mathlib.Omega.{arith}
 use lib.ListN.{length}
 use Rattle.laws.proofs.Written.{written-unique}
 use Rattle.count_file.specs.declared.Head.{Head}
-use Rattle.count_file.specs.CountFile.{CountFile}
+use Rattle.lines.specs.Parts.{Left, This}
+use Rattle.count_file.specs.CountFile.{insideBase, fileText, CountFile}
 use Rattle.lines.specs.Status.{refusalText}
-use Rattle.count_file.proofs.Files.{file-unique, file-longest}
+use Rattle.count_file.proofs.Files.{file-unique, file-longest, old-said}
 use Rattle.count.specs.Count.{fileAnswer, Counted, file, none, Answered}
 
 pub counted-unique : {s t u : List ℕ} → Counted s t → Counted s u → t ≡ u
@@ -29,6 +30,10 @@ counted-file h ss f c = counted-unique c (file f)
 pub counted-none : {s t : List ℕ} → ((h : Head) (ss : List ℕ) → CountFile s h ss → ⊥) → Counted s t → t ≡ refusalText 8
 counted-none z c = counted-unique c (none z)
 
--- no count file is longer than 4,321 bytes
-pub counted-long : {s t : List ℕ} → 4321 < length s → Counted s t → t ≡ refusalText 8
+-- A FILE WITHOUT THE LINE inside= IS ANSWERED AS THE SAME FILE WITH inside=3e112e0be826d695 AFTER rounds=
+pub old-same : {s t u : List ℕ} (h : Head) (ss : List ℕ) (f : CountFile s h ss) → f .run ≡ Left → Counted s t → Counted (fileText (This (insideBase ∷ [])) h ss) u → t ≡ u
+old-same {s} h ss f e c d = counted-file h ss f c ∙ sym (counted-file h ss (old-said s h ss f e) d)
+
+-- no count file is longer than 4,345 bytes
+pub counted-long : {s t : List ℕ} → 4345 < length s → Counted s t → t ≡ refusalText 8
 counted-long {s} h c = counted-none (λ k ss f. let l = file-longest s k ss f in omega arith) c

@@ -1,4 +1,4 @@
--- What the count program prints of what was built, and that it fits: twelve lines, or a refusal with 1, 2, 4 or 8. Assumes nothing.
+-- What the count program prints of what was built, and that it fits: twelve lines, or a refusal with 1, 2, 4, 8 or 14. Assumes nothing.
 use mathlib.Core.Path.{_≡_, refl, sym, ap, _∙_, ap₂, subst}
 use mathlib.Core.Bool.{Bool, true, false, not, cond}
 use mathlib.Core.List.{List, _∷_}
@@ -9,7 +9,7 @@ use Rattle.laws.specs.Written.{Written}
 use Rattle.laws.proofs.Written.{written-length, within}
 use Rattle.lattice.specs.Sites as box
 use Rattle.points.specs.Limits.{frameOk}
-use Rattle.refusals.specs.Refusals.{settingsOk}
+use Rattle.refusals.specs.Refusals.{settingsOk, insideOk}
 use Rattle.build.specs.declared.Answer.{Answer}
 use Rattle.build.specs.Answer.{status, refusedAnswer, answerOf, countsOf, Lists, lengthsOf}
 use Rattle.build.proofs.Fronts.{answer-status}
@@ -19,7 +19,7 @@ use Rattle.count_file.specs.Answer.{answerText}
 use Rattle.lines.proofs.Printing.{refusal-length}
 use Rattle.count_file.proofs.Printing.{answer-length}
 use Rattle.file_build.specs.declared.Built.{Built}
-use Rattle.file_build.specs.Asked.{headSides, headFrame, floatsOf, fileOrder, workSpace, workOrder, BuiltOf, built, unbuilt}
+use Rattle.file_build.specs.Asked.{headSides, headFrame, headInside, floatsOf, fileOrder, workSpace, workOrder, BuiltOf, built, unbuilt}
 use Rattle.file_build.proofs.Status.{file-status}
 use Rattle.count.specs.Count.{printed, fileAnswer, Counted, file, none, Answered}
 
@@ -35,25 +35,27 @@ built-counted {s} {r = r} w (unbuilt z d a k) = subst (λ (t : List ℕ). Counte
 
 -- ---- its length
 
--- twelve lines, or one of four refusals
+-- twelve lines, or one of five refusals
 pub data Shown : List ℕ → Type 0 where
   done : (counts : List ℕ) → length counts ≡ 11 → Shown (answerText counts)
   settings : Shown (refusalText 1)
   sides : Shown (refusalText 2)
   frame : Shown (refusalText 4)
+  threshold : Shown (refusalText 14)
   form : Shown (refusalText 8)
 
-shown : (k : ℕ) (a : Answer) (x y z : Bool) → a .status ≡ cond (not x) 1 (cond (not y) 2 (cond (not z) 4 0)) → Shown (printed k a)
+shown : (k : ℕ) (a : Answer) (x y z h : Bool) → a .status ≡ cond (not x) 1 (cond (not y) 2 (cond (not z) 4 (cond (not h) 14 0))) → Shown (printed k a)
 unfolding printed countsOf
-shown k a false y z e = rw e settings
-shown k a true false z e = rw e sides
-shown k a true true false e = rw e frame
-shown k a true true true e = rw e (done (k ∷ countsOf a) refl)
+shown k a false y z h e = rw e settings
+shown k a true false z h e = rw e sides
+shown k a true true false h e = rw e frame
+shown k a true true true false e = rw e threshold
+shown k a true true true true e = rw e (done (k ∷ countsOf a) refl)
 
 pub counted-shown : {s t : List ℕ} → Counted s t → Shown t
 unfolding fileAnswer
 counted-shown (file {h = hd} {ss = ss} f) =
-    shown (length ss) _ (settingsOk (getD (hd .sizes) 3 0) (getD (hd .sizes) 4 0)) (box.sidesOk (headSides hd)) (frameOk (headFrame hd)) (answer-status (workOrder hd (floatsOf ss)) ∙ file-status f)
+    shown (length ss) _ (settingsOk (getD (hd .sizes) 3 0) (getD (hd .sizes) 4 0)) (box.sidesOk (headSides hd)) (frameOk (headFrame hd)) (insideOk (headInside hd)) (answer-status (workOrder hd (floatsOf ss)) ∙ file-status f)
 counted-shown (none z) = form
 
 -- it never takes more than 351 bytes
@@ -62,6 +64,7 @@ shown-length (done counts h) = answer-length counts h
 shown-length settings = omega (arith, refusal-length 1)
 shown-length sides = omega (arith, refusal-length 2)
 shown-length frame = omega (arith, refusal-length 4)
+shown-length threshold = omega (arith, refusal-length 14)
 shown-length form = omega (arith, refusal-length 8)
 
 pub answered-at : {s t l l′ : List ℕ} {r : ℕ} → length l ≡ 351 → Counted s t → Written l 0 t l′ r → Answered s l l′ r

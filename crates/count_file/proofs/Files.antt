@@ -6,7 +6,7 @@ use mathlib.Core.List.{List, [], _∷_, _++_, append-nil}
 use Prim.Native.Nat.{ℕ, zero, suc, _+_, _-_, _*_, _≤_, _<_}
 use native.Mathlib.Nat.{suc-mul, mul-comm, mul-one, zero-mul, mul-zero, le-trans, le-of-eq, mul-le-mul-left, lt-of-lt-of-le}
 use native.Mathlib.Omega.{arith}
-use lib.Dec.{leb}
+use lib.Dec.{leb, lit<}
 use lib.ListN.{length, drop, take, getD, replicate, length-drop, length-append, length-replicate, take-append-drop}
 use lib.Seq.{drop-length, length-take-le, take-at}
 use borrow.Author.Tests.{le-leb, lt-leb, leb-true}
@@ -15,16 +15,16 @@ use Rattle.laws.specs.Lists.{total}
 use Rattle.laws.proofs.Lists.{drop-replicate}
 use Rattle.count_file.specs.declared.Head.{Head}
 use Rattle.count_file.specs.declared.Parsed.{Parsed}
-use Rattle.lines.specs.Lines.{Field, Dec, lineOf, okOf, lines, Fine, line}
-use Rattle.lines.specs.Parts.{partText, partsText, PartsFine, done, must}
-use Rattle.lines.specs.Inner.Readers.{Reads, Absent, Have, Miss}
-use Rattle.count_file.specs.CountFile.{sizesForm, headParts, headRuns, headText, sample, bodyForm, sites, InSize, fileText, CountFile}
+use Rattle.lines.specs.Lines.{Field, Dec, lineOf, okOf, lines, Fine, none, line}
+use Rattle.lines.specs.Parts.{Run, Left, This, partText, partsText, PartsFine, done, must, given, left}
+use Rattle.lines.specs.Inner.Readers.{Reads, Absent, Miss}
+use Rattle.count_file.specs.CountFile.{sizesForm, insideForm, headParts, insideBase, Says, said, headRuns, headText, sample, bodyForm, sites, InSize, fileText, CountFile}
 use Rattle.count_file.specs.Parsed.{accepted, refusal, Accepted, parsedAs, ParsedOf}
 use Rattle.lines.specs.Inner.Stored.{Stored}
-use Rattle.count_file.specs.Inner.Heads.{siteCount, countOf}
+use Rattle.count_file.specs.Inner.Heads.{FoundHead, siteCount, countOf}
 use Rattle.lines.proofs.Lines.{lines-same, fine-length, lineMost, lines-most}
 use Rattle.lines.proofs.Parts.{first-fine}
-use Rattle.count_file.proofs.Heads.{head-same}
+use Rattle.count_file.proofs.Heads.{says-left, head-same, line-same}
 
 -- ---- the number of sites
 
@@ -116,19 +116,24 @@ second-small (line a (line b p)) = b
 -- the bytes say the values
 pub file-unique : (s : List ℕ) (h : Head) (ss : List ℕ) (k : Head) (rs : List ℕ) → CountFile s h ss → CountFile s k rs → (h ≡ k) × (ss ≡ rs)
 file-unique s h ss k rs f g =
-    let t = head-same h k (lines (bodyForm (sites h)) ss) (lines (bodyForm (sites k)) rs) (f .head) (g .head) (sym (f .is) ∙ g .is) in
+    let t = head-same (f .run) (g .run) h k (lines (bodyForm (sites h)) ss) (lines (bodyForm (sites k)) rs) (f .head) (g .head) (sym (f .is) ∙ g .is) (f .says) (g .says) in
     let b : Fine (bodyForm (sites h)) rs = rw (t .first) (g .body) in
     let e : lines (bodyForm (sites h)) ss ++ [] ≡ lines (bodyForm (sites h)) rs ++ [] =
     rw (append-nil (lines (bodyForm (sites h)) ss), append-nil (lines (bodyForm (sites h)) rs)) (t .rest ∙ rw (t .first)) in
     let u = lines-same [] [] (f .body) b e in
     (t .first, u .first)
 
+-- and whether it has the line inside=: no input is both a file with it and a file without
+pub one-form : (s : List ℕ) (h : Head) (ss : List ℕ) (k : Head) (rs : List ℕ) (f : CountFile s h ss) (g : CountFile s k rs) → f .run ≡ g .run
+one-form s h ss k rs f g =
+    line-same (f .run) (g .run) h k (lines (bodyForm (sites h)) ss) (lines (bodyForm (sites k)) rs) (f .head) (g .head) (sym (f .is) ∙ g .is)
+
 module _ (s : List ℕ) where
   pub no-head : Miss headParts s 0 → (k : Head) (ss : List ℕ) → CountFile s k ss → ⊥
-  no-head p k ss f = p .none (headRuns k) (lines (bodyForm (sites k)) ss) (f .head) (f .is)
+  no-head p k ss f = p .none (headRuns (f .run) k) (lines (bodyForm (sites k)) ss) (f .head) (f .is)
 
   -- a header was read
-  module _ (h : Head) (mid : ℕ) (p : Have headParts s 0 (headRuns h) mid) where
+  module _ (h : Head) (mid : ℕ) (p : FoundHead s h mid) where
     -- it is the file's
     record Same (k : Head) (ss : List ℕ) : Type 0 where
       values : h ≡ k
@@ -137,7 +142,7 @@ module _ (s : List ℕ) where
 
     same : (k : Head) (ss : List ℕ) → CountFile s k ss → Same k ss
     same k ss f =
-        let t = head-same h k (drop mid s) (lines (bodyForm (sites k)) ss) (p .fine) (f .head) (sym (p .here) ∙ f .is) in
+        let t = head-same (p .run) (f .run) h k (drop mid s) (lines (bodyForm (sites k)) ss) (p .have .fine) (f .head) (sym (p .have .here) ∙ f .is) (p .says) (f .says) in
         record { values = t .first; rest = rw (t .first) (t .rest); fine = rw (t .first) (f .body) }
 
     pub bad-size : countOf h ≡ 0 → (k : Head) (ss : List ℕ) → CountFile s k ss → ⊥
@@ -168,10 +173,12 @@ module _ (s : List ℕ) where
         file-read e =
             let z : drop next s ≡ [] = rw e (drop-length s) in
             rw (count-sites h some) (record {
-              head = p .fine;
+              run = p .run;
+              says = p .says;
+              head = p .have .fine;
               size = count-size h some;
               body = body .fine;
-              is = p .here ∙ rw (body .here, z, append-nil);
+              is = p .have .here ∙ rw (body .here, z, append-nil);
             })
 
         -- the list that was filled, where it was n zeros
@@ -184,7 +191,7 @@ module _ (s : List ℕ) where
 -- ---- what is read from a count file
 
 -- the answer where all was read
-pub accept : (s : List ℕ) (h : Head) (mid : ℕ) → Have headParts s 0 (headRuns h) mid → (countOf h ≡ 0 → ⊥) → {l′ : List ℕ} (next : ℕ)
+pub accept : (s : List ℕ) (h : Head) (mid : ℕ) → FoundHead s h mid → (countOf h ≡ 0 → ⊥) → {l′ : List ℕ} (next : ℕ)
     → Stored (bodyForm (countOf h)) s mid (countOf h) (replicate 216 0) l′ next → next ≡ length s → (n : ℕ) → n ≡ countOf h
     → Accepted s (record { good = true; head = h; sites = n; samples = l′ })
 accept s h mid p some {l′} next q e n m =
@@ -241,29 +248,49 @@ accepted-samples s r a =
     let l : r .samples ≡ padded 216 0 (a .samples) = ap (λ (q : Parsed). q .samples) (a .is) in
     ap₂ (λ (k : ℕ) (x : List ℕ). take k x) n l ∙ take-at (a .samples) (replicate (216 - length (a .samples)) 0) (length (a .samples)) refl
 
--- a file that is printed is read back: the same header, the same samples
-pub file-back : (h : Head) (ss : List ℕ) (r : Parsed) → PartsFine headParts (headRuns h) → InSize h → Fine (bodyForm (sites h)) ss → ParsedOf (fileText h ss) r → r ≡ accepted h ss
-file-back h ss r p i b q = file-parsed (fileText h ss) h ss r (record { head = p; size = i; body = b; is = refl }) q
+-- a file that is printed, with the line inside= or without, is read back: the same header, the same samples
+pub file-back : (l : Run) (h : Head) (ss : List ℕ) (r : Parsed) → Says l (h .inside) → PartsFine headParts (headRuns l h) → InSize h → Fine (bodyForm (sites h)) ss
+    → ParsedOf (fileText l h ss) r → r ≡ accepted h ss
+file-back l h ss r y p i b q = file-parsed (fileText l h ss) h ss r (record { run = l; says = y; head = p; size = i; body = b; is = refl }) q
 
--- ---- no count file is longer than 4321 bytes
+-- ---- a file without the line inside= says what the same file says with inside=3e112e0be826d695 after rounds=
+
+base-fine : Fine insideForm (insideBase ∷ [])
+unfolding okOf
+base-fine = line (lit< tt) none
+
+pub old-said : (s : List ℕ) (h : Head) (ss : List ℕ) (f : CountFile s h ss) → f .run ≡ Left → CountFile (fileText (This (insideBase ∷ [])) h ss) h ss
+old-said s h ss f e =
+    record { run = This (insideBase ∷ []); says = rw (says-left (f .says) e) (said insideBase); head = with-line (rw e at (f .head)); size = f .size; body = f .body; is = refl }
+  where
+    with-line : PartsFine headParts (headRuns Left h) → PartsFine headParts (headRuns (This (insideBase ∷ [])) h)
+    with-line (must a (left p)) = must a (given base-fine p)
+
+pub old-same : (s : List ℕ) (h : Head) (ss : List ℕ) (f : CountFile s h ss) (r q : Parsed) → f .run ≡ Left → ParsedOf s r → ParsedOf (fileText (This (insideBase ∷ [])) h ss) q → r ≡ q
+old-same s h ss f r q e a b = file-parsed s h ss r f a ∙ sym (file-parsed (fileText (This (insideBase ∷ [])) h ss) h ss q (old-said s h ss f e) b)
+
+-- ---- no count file is longer than 4345 bytes
 
 body-most : (n : ℕ) → total lineMost (bodyForm n) ≡ n * 19
 unfolding total lineMost
 body-most zero = refl
 body-most (suc n) = rw suc-mul (omega (arith, body-most n))
 
-head-most : (h : Head) → PartsFine headParts (headRuns h) → length (headText h) ≤ 217
+head-most : {l : Run} (h : Head) → PartsFine headParts (headRuns l h) → length (headText l h) ≤ 241
 unfolding partsText partText total lineMost
-head-most h (must a (must b (must c done))) =
-    rw (length-append, length-append, length-append) (omega (arith, lines-most a, lines-most b, lines-most c))
+head-most h (must a (given i (must b (must c done)))) =
+    rw (length-append, length-append, length-append, length-append) (omega (arith, lines-most a, lines-most i, lines-most b, lines-most c))
+head-most h (must a (left (must b (must c done)))) =
+    rw (length-append, length-append, length-append, length-append) (omega (arith, lines-most a, lines-most b, lines-most c))
 
-pub file-longest : (s : List ℕ) (h : Head) (ss : List ℕ) → CountFile s h ss → length s ≤ 4321
+pub file-longest : (s : List ℕ) (h : Head) (ss : List ℕ) → CountFile s h ss → length s ≤ 4345
 file-longest s h ss f =
     let b : length (lines (bodyForm (sites h)) ss) ≤ sites h * 19 = rw (← body-most (sites h)) (lines-most (f .body)) in
-    let l : length s ≡ length (headText h) + length (lines (bodyForm (sites h)) ss) = ap length (f .is) ∙ length-append (headText h) (lines (bodyForm (sites h)) ss) in
+    let t = headText (f .run) h in
+    let l : length s ≡ length t + length (lines (bodyForm (sites h)) ss) = ap length (f .is) ∙ length-append t (lines (bodyForm (sites h)) ss) in
     at-most (f .size .most) (head-most h (f .head)) b l
   where
-    at-most : {n a b c : ℕ} → n ≤ 216 → a ≤ 217 → b ≤ n * 19 → c ≡ a + b → c ≤ 4321
+    at-most : {n a b c : ℕ} → n ≤ 216 → a ≤ 241 → b ≤ n * 19 → c ≡ a + b → c ≤ 4345
     at-most p q r e = omega arith
 
 -- ---- what is no count file is refused: the empty input, and any that is longer
@@ -277,13 +304,13 @@ none-refused s r z p = go (r .good) p
 
 pub empty-refused : (r : Parsed) → ParsedOf [] r → r ≡ refusal
 unfolding partsText partText lines lineOf
-empty-refused r p = none-refused [] r (λ h ss f. go h ss (first-fine (f .head)) (ap length (f .is))) p
+empty-refused r p = none-refused [] r (λ h ss f. go (f .run) h ss (first-fine (f .head)) (ap length (f .is))) p
   where
     some : {vs : List ℕ} (x y : List ℕ) → Fine sizesForm vs → 0 ≡ length ((lines sizesForm vs ++ x) ++ y) → ⊥
     some x y (line a q) e = omega arith
 
-    go : (h : Head) (ss : List ℕ) → Fine sizesForm (h .sizes) → 0 ≡ length (fileText h ss) → ⊥
-    go h ss q e = some _ _ q e
+    go : (l : Run) (h : Head) (ss : List ℕ) → Fine sizesForm (h .sizes) → 0 ≡ length (fileText l h ss) → ⊥
+    go l h ss q e = some _ _ q e
 
-pub long-refused : (s : List ℕ) (r : Parsed) → 4321 < length s → ParsedOf s r → r ≡ refusal
+pub long-refused : (s : List ℕ) (r : Parsed) → 4345 < length s → ParsedOf s r → r ≡ refusal
 long-refused s r h p = none-refused s r (λ k ss f. let l = file-longest s k ss f in omega arith) p

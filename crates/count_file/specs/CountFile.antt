@@ -1,11 +1,12 @@
--- The count file (docs/SCOPE.md, S10.1 to S10.3): its header as a list of parts, then the samples, each line ended by LF, and nothing after them.
+-- The count file (docs/SCOPE.md, S10.1 to S10.3): its header as a list of parts, one of which may be left out, then the samples, each line ended by LF, and nothing
+-- after them.
 -- Assumes nothing.
 use mathlib.Core.Path.{_≡_}
 use mathlib.Core.List.{List, [], _∷_, _++_}
 use Prim.Native.Nat.{ℕ, _*_, _≤_}
 use lib.ListN.{getD, replicate}
 use Rattle.lines.specs.Lines.{Field, Dec, Hex, lines, Fine}
-use Rattle.lines.specs.Parts.{Part, Must, Run, This, partsText, PartsFine}
+use Rattle.lines.specs.Parts.{Part, Must, May, Run, Left, This, partsText, PartsFine}
 use Rattle.count_file.specs.declared.Head.{Head}
 
 -- nu= nv= nw= method= rounds= in decimal
@@ -17,6 +18,10 @@ sizesForm =
     ∷ Dec (109 ∷ 101 ∷ 116 ∷ 104 ∷ 111 ∷ 100 ∷ 61 ∷ [])  -- method=
     ∷ Dec (114 ∷ 111 ∷ 117 ∷ 110 ∷ 100 ∷ 115 ∷ 61 ∷ [])  -- rounds=
     ∷ []
+
+-- inside= by its bits
+abbrev pub insideForm : List Field
+insideForm = Hex (105 ∷ 110 ∷ 115 ∷ 105 ∷ 100 ∷ 101 ∷ 61 ∷ []) ∷ []
 
 -- origin0= origin1= origin2= by their bits
 abbrev pub originForm : List Field
@@ -36,14 +41,23 @@ stepsForm =
 
 -- the header: these parts in this order
 abbrev pub headParts : List Part
-headParts = Must sizesForm ∷ Must originForm ∷ Must stepsForm ∷ []
+headParts = Must sizesForm ∷ May insideForm ∷ Must originForm ∷ Must stepsForm ∷ []
 
--- what stands for each part where the header has the values h
-abbrev pub headRuns : Head → List Run
-headRuns h = This (h .sizes) ∷ This (h .origin) ∷ This (h .steps) ∷ []
+-- the bits of 1.0e-9, which a file without the line inside= means
+abbrev pub insideBase : ℕ
+insideBase = 0x3E112E0BE826D695
 
-abbrev pub headText : Head → List ℕ
-headText h = partsText headParts (headRuns h)
+-- what stands for that line says the threshold's bits
+pub data Says : Run → ℕ → Type 0 where
+  said : (b : ℕ) → Says (This (b ∷ [])) b
+  unsaid : Says Left insideBase
+
+-- what stands for each part where the header has the values h, and l stands for the line inside=
+abbrev pub headRuns : Run → Head → List Run
+headRuns l h = This (h .sizes) ∷ l ∷ This (h .origin) ∷ This (h .steps) ∷ []
+
+abbrev pub headText : Run → Head → List ℕ
+headText l h = partsText headParts (headRuns l h)
 
 -- s=
 abbrev pub sample : Field
@@ -65,12 +79,14 @@ pub record InSize (h : Head) : Type 0 where
   pub most : sites h ≤ 216
 
 -- the bytes of a file
-abbrev pub fileText : Head → List ℕ → List ℕ
-fileText h ss = headText h ++ lines (bodyForm (sites h)) ss
+abbrev pub fileText : Run → Head → List ℕ → List ℕ
+fileText l h ss = headText l h ++ lines (bodyForm (sites h)) ss
 
 -- s is the file of the header h and the samples ss, one a site
 pub record CountFile (s : List ℕ) (h : Head) (ss : List ℕ) : Type 0 where
-  pub head : PartsFine headParts (headRuns h)
+  pub run : Run
+  pub says : Says run (h .inside)
+  pub head : PartsFine headParts (headRuns run h)
   pub size : InSize h
   pub body : Fine (bodyForm (sites h)) ss
-  pub is : s ≡ fileText h ss
+  pub is : s ≡ fileText run h ss

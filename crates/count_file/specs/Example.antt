@@ -5,16 +5,17 @@ use Prim.Native.Nat.{ℕ}
 use lib.ListN.{replicate}
 use Rattle.lines.specs.Numbers.{digits, dec, hexDigit, hex}
 use Rattle.lines.specs.Lines.{lineOf, lines}
-use Rattle.lines.specs.Parts.{partText, partsText}
+use Rattle.lines.specs.Parts.{Left, This, partText, partsText}
 use Rattle.count_file.specs.declared.Head.{Head}
-use Rattle.count_file.specs.CountFile.{fileText}
+use Rattle.count_file.specs.CountFile.{insideBase, fileText}
 use Rattle.lines.specs.Status.{refusalText}
 use Rattle.count_file.specs.Answer.{answerText}
 
--- the sides 3, 3, 3, method 1, rounds 4, origin 0, step 1
+-- the sides 3, 3, 3, method 1, rounds 4, threshold 1.0e-9, origin 0, step 1
 abbrev pub exampleHead : Head
 exampleHead = record {
   sizes = 3 ∷ 3 ∷ 3 ∷ 1 ∷ 4 ∷ [];
+  inside = insideBase;
   origin = 0 ∷ 0 ∷ 0 ∷ [];
   steps = 0x3ff0000000000000 ∷ 0x3ff0000000000000 ∷ 0x3ff0000000000000 ∷ [];
 }
@@ -23,15 +24,19 @@ exampleHead = record {
 abbrev pub exampleSamples : List ℕ
 exampleSamples = replicate 13 0x3ff0000000000000 ++ 0xbff0000000000000 ∷ replicate 13 0x3ff0000000000000
 
--- the file: its header, line by line, and its samples
-abbrev pub exampleFile : List ℕ
-exampleFile =
+-- the file, line by line: the five lines in decimal, then the others
+abbrev exampleStart : List ℕ
+exampleStart =
     110 ∷ 117 ∷ 61 ∷ 51 ∷ 10  -- nu=3
     ∷ 110 ∷ 118 ∷ 61 ∷ 51 ∷ 10  -- nv=3
     ∷ 110 ∷ 119 ∷ 61 ∷ 51 ∷ 10  -- nw=3
     ∷ 109 ∷ 101 ∷ 116 ∷ 104 ∷ 111 ∷ 100 ∷ 61 ∷ 49 ∷ 10  -- method=1
     ∷ 114 ∷ 111 ∷ 117 ∷ 110 ∷ 100 ∷ 115 ∷ 61 ∷ 52 ∷ 10  -- rounds=4
-    ∷ 111 ∷ 114 ∷ 105 ∷ 103 ∷ 105 ∷ 110 ∷ 48 ∷ 61 ∷ 48 ∷ 48 ∷ 48 ∷ 48 ∷ 48 ∷ 48 ∷ 48 ∷ 48 ∷ 48 ∷ 48 ∷ 48 ∷ 48 ∷ 48 ∷ 48 ∷ 48 ∷ 48 ∷ 10  -- origin0=0000000000000000
+    ∷ []
+
+abbrev exampleRest : List ℕ
+exampleRest =
+    111 ∷ 114 ∷ 105 ∷ 103 ∷ 105 ∷ 110 ∷ 48 ∷ 61 ∷ 48 ∷ 48 ∷ 48 ∷ 48 ∷ 48 ∷ 48 ∷ 48 ∷ 48 ∷ 48 ∷ 48 ∷ 48 ∷ 48 ∷ 48 ∷ 48 ∷ 48 ∷ 48 ∷ 10  -- origin0=0000000000000000
     ∷ 111 ∷ 114 ∷ 105 ∷ 103 ∷ 105 ∷ 110 ∷ 49 ∷ 61 ∷ 48 ∷ 48 ∷ 48 ∷ 48 ∷ 48 ∷ 48 ∷ 48 ∷ 48 ∷ 48 ∷ 48 ∷ 48 ∷ 48 ∷ 48 ∷ 48 ∷ 48 ∷ 48 ∷ 10  -- origin1=0000000000000000
     ∷ 111 ∷ 114 ∷ 105 ∷ 103 ∷ 105 ∷ 110 ∷ 50 ∷ 61 ∷ 48 ∷ 48 ∷ 48 ∷ 48 ∷ 48 ∷ 48 ∷ 48 ∷ 48 ∷ 48 ∷ 48 ∷ 48 ∷ 48 ∷ 48 ∷ 48 ∷ 48 ∷ 48 ∷ 10  -- origin2=0000000000000000
     ∷ 115 ∷ 116 ∷ 101 ∷ 112 ∷ 48 ∷ 61 ∷ 51 ∷ 102 ∷ 102 ∷ 48 ∷ 48 ∷ 48 ∷ 48 ∷ 48 ∷ 48 ∷ 48 ∷ 48 ∷ 48 ∷ 48 ∷ 48 ∷ 48 ∷ 48 ∷ 10  -- step0=3ff0000000000000
@@ -66,9 +71,23 @@ exampleFile =
     ∷ 115 ∷ 61 ∷ 51 ∷ 102 ∷ 102 ∷ 48 ∷ 48 ∷ 48 ∷ 48 ∷ 48 ∷ 48 ∷ 48 ∷ 48 ∷ 48 ∷ 48 ∷ 48 ∷ 48 ∷ 48 ∷ 10  -- s=3ff0000000000000
     ∷ []
 
-pub file-is : fileText exampleHead exampleSamples ≡ exampleFile
+abbrev pub exampleFile : List ℕ
+exampleFile = exampleStart ++ exampleRest
+
+-- the same with the line of the threshold
+abbrev pub exampleSaid : List ℕ
+exampleSaid =
+    exampleStart
+    ++ 105 ∷ 110 ∷ 115 ∷ 105 ∷ 100 ∷ 101 ∷ 61 ∷ 51 ∷ 101 ∷ 49 ∷ 49 ∷ 50 ∷ 101 ∷ 48 ∷ 98 ∷ 101 ∷ 56 ∷ 50 ∷ 54 ∷ 100 ∷ 54 ∷ 57 ∷ 53 ∷ 10  -- inside=3e112e0be826d695
+    ∷ exampleRest
+
+pub file-is : fileText Left exampleHead exampleSamples ≡ exampleFile
 unfolding digits dec hexDigit hex lineOf lines partText partsText
 file-is = refl
+
+pub said-is : fileText (This (insideBase ∷ [])) exampleHead exampleSamples ≡ exampleSaid
+unfolding digits dec hexDigit hex lineOf lines partText partsText
+said-is = refl
 
 -- the answer, line by line
 abbrev pub exampleAnswer : List ℕ

@@ -11,7 +11,7 @@ use Rattle.count_file.specs.CountFile.{CountFile}
 
 -- a header of zeros
 abbrev pub zeroHead : Head
-zeroHead = record { sizes = replicate 5 0; origin = replicate 3 0; steps = replicate 3 0 }
+zeroHead = record { sizes = replicate 5 0; inside = 0; origin = replicate 3 0; steps = replicate 3 0 }
 
 -- the answer for the file of the header h and the samples ss, and that for all else
 abbrev pub accepted : Head → List ℕ → Parsed

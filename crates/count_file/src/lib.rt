@@ -9,7 +9,7 @@ ghost use Rattle.lines.specs.Lines.{lines};
 ghost use Rattle.lines.specs.Inner.Stored.{RunOf};
 ghost use Rattle.count_file.specs.CountFile.{bodyForm};
 ghost use Rattle.count_file.specs.Parsed.{zeroHead, refusal, ParsedOf};
-ghost use Rattle.count_file.specs.Inner.Heads.{siteCount, notFound, FoundOf};
+ghost use Rattle.count_file.specs.Inner.Heads.{siteCount, notFound, ThresholdOf, FoundOf};
 ghost use Rattle.count_file.specs.Answer.{countForm, answerText};
 
 // ---- the file
@@ -18,11 +18,15 @@ ghost use Rattle.count_file.specs.Answer.{countForm, answerText};
 pub const SITES: usize = 216;
 
 // One byte more than a count file has at most (`file-longest`): a program that reads so many sees that a longer input is none, and need not wait for its end.
-pub const ENOUGH: usize = 4322;
+pub const ENOUGH: usize = 4346;
 
-// What the header says: nu, nv, nw, method and rounds; the bits of the three origins, and of the three steps.
+// The bits of 1.0e-9, the threshold of a file without the line `inside=`.
+pub const INSIDE: u64 = 0x3E112E0BE826D695;
+
+// What the header says: nu, nv, nw, method and rounds; the bits of the threshold, of the three origins, and of the three steps.
 pub struct Head {
     pub sizes: [u64; 5],
+    pub inside: u64,
     pub origin: [u64; 3],
     pub steps: [u64; 3],
 }
@@ -32,6 +36,7 @@ fn zero_head() -> Head
 {
     Head {
         sizes: [0u64; 5],
+        inside: 0,
         origin: [0u64; 3],
         steps: [0u64; 3],
     }
@@ -55,6 +60,26 @@ fn not_found() -> Found
     }
 }
 
+// The bits of the threshold, and where the line after them starts.
+struct Threshold {
+    bits: u64,
+    next: usize,
+}
+
+// The line `inside=`, which may be left out.
+fn read_inside(s: &[u8], at: usize) -> Threshold
+    requires { ⌜ at ≤ length (now s) ⌝ }
+    ensures { λ r. ⌜ ThresholdOf (now (s .entry)) at r ⌝ }
+{
+    let Num::Got { value, next } = lines::hex_line(s, at, b"inside=") else {
+        return Threshold {
+            bits: INSIDE,
+            next: at,
+        };
+    };
+    Threshold { bits: value, next }
+}
+
 fn read_head(s: &[u8]) -> Found
     ensures { λ r. ⌜ FoundOf (now (s .entry)) r ⌝ }
 {
@@ -63,8 +88,9 @@ fn read_head(s: &[u8]) -> Found
     let Place::At(mid) = a else {
         return not_found();
     };
+    let threshold = read_inside(s, mid);
     let mut origin = [0u64; 3];
-    let b = lines::read_run(s, mid, 0, b"origin0=origin1=origin2=", 3, &mut origin);
+    let b = lines::read_run(s, threshold.next, 0, b"origin0=origin1=origin2=", 3, &mut origin);
     let Place::At(end) = b else {
         return not_found();
     };
@@ -73,8 +99,10 @@ fn read_head(s: &[u8]) -> Found
     let Place::At(next) = d else {
         return not_found();
     };
+    let inside = threshold.bits;
     let head = Head {
         sizes,
+        inside,
         origin,
         steps,
     };

@@ -1,5 +1,5 @@
 // The count program: reads a count file from standard input, or from the file that its one argument names, and prints the answer.
-// The number that it prints is 0, 1, 2 (a side of 33 to 216), 4 or 8: no count file brings about another.
+// The number that it prints is 0, 1, 2 (a side of 33 to 216), 4, 8 or 14: no input brings about another.
 
 fn main() {
     let mut space = [0u8; count_file::ENOUGH];

@@ -47,14 +47,14 @@ fn show_masks(masks: &[u16]) {
     }
 }
 
-fn show_topology(n: Sides, samples: &[f64], s: usize, m: u16, cluster: bool)
+fn show_topology(n: Sides, samples: &[f64], h: f64, s: usize, m: u16, cluster: bool)
     requires { ⌜ Sampled n (now samples) × (s < sites n) ⌝ }
 {
     if m == 0 {
         return;
     }
     let ends = site_vertices::ends_of(n, samples, s);
-    let r = topology::test_topology(m, cluster, ends, samples::INSIDE);
+    let r = topology::test_topology(m, cluster, ends, h);
     let case = r.case;
     let clusters = r.clusters;
     let count = clusters.count;
@@ -67,21 +67,21 @@ fn show_topology(n: Sides, samples: &[f64], s: usize, m: u16, cluster: bool)
     end();
 }
 
-fn show_topologies(n: Sides, samples: &[f64], masks: &[u16], cluster: bool)
+fn show_topologies(n: Sides, samples: &[f64], h: f64, masks: &[u16], cluster: bool)
     requires { ⌜ Sampled n (now samples) × (length (now masks) ≤ sites n) ⌝ }
 {
     for s in 0..masks.len() {
-        show_topology(n, samples, s, masks[s], cluster);
+        show_topology(n, samples, h, s, masks[s], cluster);
     }
 }
 
 // ---- cases of the tetrahedra
 
-fn show_cases(n: Sides, samples: &[f64], s: usize)
+fn show_cases(n: Sides, samples: &[f64], h: f64, s: usize)
     requires { ⌜ Sampled n (now samples) × (s < sites n) ⌝ }
 {
     let p = lattice::coordinates(n, s);
-    let c = cases::site_cases(samples, n, p, samples::INSIDE);
+    let c = cases::site_cases(samples, n, p, h);
     if c[0] | c[1] | c[2] | c[3] | c[4] | c[5] == 0 {
         return;
     }
@@ -96,12 +96,12 @@ fn show_cases(n: Sides, samples: &[f64], s: usize)
     end();
 }
 
-fn show_tets(n: Sides, samples: &[f64])
+fn show_tets(n: Sides, samples: &[f64], h: f64)
     requires { ⌜ Sampled n (now samples) ⌝ }
 {
     let k = lattice::site_count(n);
     for s in 0..k {
-        show_cases(n, samples, s);
+        show_cases(n, samples, h, s);
     }
 }
 
@@ -174,6 +174,7 @@ fn show_candidate(book: &[u32], w: Walk, p: usize) -> Walk
 fn show_site_splits(
     n: Sides,
     samples: &[f64],
+    h: f64,
     table: &[u32],
     book: &[u32],
     s: usize,
@@ -185,7 +186,7 @@ fn show_site_splits(
     ensures { λ r. ⌜ r .candidate ≤ r .vertex ⌝ }
 {
     let ends = site_vertices::ends_of(n, samples, s);
-    let r = topology::test_topology(m, cluster, ends, samples::INSIDE);
+    let r = topology::test_topology(m, cluster, ends, h);
     let clusters = r.clusters;
     let masks = clusters.masks;
     let count = least(clusters.count, 14);
@@ -199,6 +200,7 @@ fn show_site_splits(
 fn show_splits(
     n: Sides,
     samples: &[f64],
+    h: f64,
     masks: &[u16],
     table: &[u32],
     book: &[u32],
@@ -214,7 +216,7 @@ fn show_splits(
         vertex: 0,
     };
     for s in 0..masks.len() {
-        w = show_site_splits(n, samples, table, book, s, masks[s], cluster, w);
+        w = show_site_splits(n, samples, h, table, book, s, masks[s], cluster, w);
     }
     end();
 }
@@ -325,18 +327,19 @@ fn show_lists(a: Answer, table: &[u32], positions: &[f64], book: &[u32], tris: &
     show_rows(b"triangle", 3, false, &tris[..t]);
 }
 
-fn show_sites(n: Sides, samples: &[f64], masks: &[u16], cluster: bool)
+fn show_sites(n: Sides, samples: &[f64], h: f64, masks: &[u16], cluster: bool)
     requires { ⌜ Sampled n (now samples) × (length (now samples) ≤ sites n) ⌝ }
 {
     let k = least(samples.len(), masks.len());
     show_masks(&masks[..k]);
-    show_topologies(n, samples, &masks[..k], cluster);
-    show_tets(n, samples);
+    show_topologies(n, samples, h, &masks[..k], cluster);
+    show_tets(n, samples, h);
 }
 
 fn show_changes(
     n: Sides,
     samples: &[f64],
+    h: f64,
     a: Answer,
     masks: &[u16],
     table: &[u32],
@@ -347,7 +350,7 @@ fn show_changes(
 {
     let k = least(samples.len(), masks.len());
     let b = least(4 * least(a.vertices, 2268), book.len());
-    show_splits(n, samples, &masks[..k], table, &book[..b], cluster, a.split);
+    show_splits(n, samples, h, &masks[..k], table, &book[..b], cluster, a.split);
     show_rounds(&book[..b], a.rounds);
 }
 
@@ -365,11 +368,12 @@ fn dump(
     requires { ⌜ Sampled (headSides head) (now samples) × (length (now samples) ≤ sites (headSides head)) ⌝ }
 {
     let n = file_build::sides_of(head);
+    let h = file_build::inside_of(head);
     let e = least(7 * least(samples.len(), count_file::SITES), table.len());
     let sizes = head.sizes;
     let cluster = sizes[3] == 1;
-    show_sites(n, samples, masks, cluster);
-    show_changes(n, samples, a, masks, &table[..e], book, cluster);
+    show_sites(n, samples, h, masks, cluster);
+    show_changes(n, samples, h, a, masks, &table[..e], book, cluster);
     show_lists(a, &table[..e], positions, book, tris);
 }
 

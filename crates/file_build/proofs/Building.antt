@@ -6,23 +6,33 @@ use Prim.Native.Nat.{ℕ, zero, suc, _+_, _-_, _≤_}
 use native.Mathlib.Omega.{arith}
 use lib.Ieee.{Float, binary64, ofBits}
 use lib.ListN.{length, take, getD, replicate, length-append, length-map}
+use Rattle.samples.specs.Sides.{base}
 use Rattle.lattice.specs.declared.Sides.{Sides}
+use Rattle.lines.specs.Parts.{Left}
 use Rattle.points.specs.declared.Frame.{Frame}
 use Rattle.count_file.specs.declared.Head.{Head}
 use Rattle.count_file.specs.declared.Parsed.{Parsed}
+use Rattle.count_file.specs.CountFile.{CountFile}
 use Rattle.count_file.specs.Parsed.{accepted, Accepted, parsedAs, ParsedOf}
+use Rattle.count_file.proofs.Heads.{says-left}
 use Rattle.count_file.proofs.Files.{file-unique, good-exactly, accepted-samples}
 use Rattle.build.specs.declared.Answer.{Answer}
 use Rattle.build.specs.Answer.{Order, order, answerOf, refusedAnswer, Lists, lengthsOf, listsAfter, BuildOf, BuildIn}
 use Rattle.file_build.specs.declared.Built.{Built}
-use Rattle.file_build.specs.Asked.{headSides, headFrame, floatsOf, fileOrder, BuiltOf, built, unbuilt}
+use Rattle.file_build.specs.Asked.{headSides, headFrame, headInside, floatsOf, fileOrder, BuiltOf, built, unbuilt}
 
 -- ---- the build of a header
 
-pub head-built : (hd : Head) {S : List Float} {n : Sides} {f : Frame} {l l′ : Lists} {a : Answer} → n ≡ headSides hd → f ≡ headFrame hd
-    → BuildIn n (getD (hd .sizes) 3 0) (getD (hd .sizes) 4 0) f S l l′ a → BuildOf (fileOrder hd S (lengthsOf l)) l l′ a
-head-built hd {S} {l = l} {l′} {a} hn hf h =
-    subst (λ (o : Order). BuildOf o l l′ a) (ap₂ (λ (x : Sides) (y : Frame). order x (getD (hd .sizes) 3 0) (getD (hd .sizes) 4 0) y S (lengthsOf l)) hn hf) h
+pub head-built : (hd : Head) {S : List Float} {n : Sides} {t : Float} {f : Frame} {l l′ : Lists} {a : Answer} → n ≡ headSides hd → t ≡ headInside hd → f ≡ headFrame hd
+    → BuildIn n (getD (hd .sizes) 3 0) (getD (hd .sizes) 4 0) t f S l l′ a → BuildOf (fileOrder hd S (lengthsOf l)) l l′ a
+head-built hd {S} {l = l} {l′} {a} hn ht hf h =
+    subst (λ (o : Order). BuildOf o l l′ a) (λ i. order (hn i) (getD (hd .sizes) 3 0) (getD (hd .sizes) 4 0) (ht i) (hf i) S (lengthsOf l)) h
+
+-- ---- A FILE WITHOUT THE LINE inside= IS BUILT WITH THE BASE THRESHOLD
+
+pub old-inside : {s : List ℕ} {hd : Head} {ss : List ℕ} (f : CountFile s hd ss) → f .run ≡ Left → headInside hd ≡ base
+unfolding headInside
+old-inside f e = ap (ofBits binary64) (says-left (f .says) e)
 
 -- ---- what was read
 

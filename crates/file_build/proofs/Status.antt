@@ -1,4 +1,4 @@
--- The numbers that the build of a count file answers: 0, 1, 2 and 4. A file has a sample for each site, and the work space is enough for every file. Assumes nothing.
+-- The numbers that the build of a count file answers: 0, 1, 2, 4 and 14. A file has a sample for each site, and the work space is enough for every file. Assumes nothing.
 use mathlib.Core.Path.{_≡_, sym, ap, _∙_}
 use mathlib.Core.Bool.{not, cond}
 use mathlib.Core.List.{List}
@@ -16,16 +16,15 @@ use Rattle.laws.proofs.Sums.{sum-le}
 use Rattle.lattice.specs.declared.Sides.{Sides}
 use Rattle.lattice.specs.Sites as box
 use Rattle.lattice.proofs.Sites.{product-le}
-use Rattle.samples.specs.Sides.{base}
 use Rattle.marks.specs.Marks.{isCrossed, crossedCount}
 use Rattle.points.specs.Limits.{frameOk}
 use Rattle.refusals.specs.declared.Lengths.{Lengths}
-use Rattle.refusals.specs.Refusals.{settingsOk, siteRoom, vertexRoom, cellRoom, most, statusOf}
+use Rattle.refusals.specs.Refusals.{settingsOk, insideOk, siteRoom, vertexRoom, cellRoom, most, statusOf}
 use Rattle.build.specs.Answer.{status, orderBox, orderVertices, orderCases, doneAnswer, refusedAnswer, answerOf}
 use Rattle.count_file.specs.declared.Head.{Head}
 use Rattle.count_file.specs.CountFile.{CountFile, sites, sample}
 use Rattle.lines.proofs.Lines.{fine-length}
-use Rattle.file_build.specs.Asked.{headSides, headFrame, floatsOf, fileOrder, workSpace, workOrder}
+use Rattle.file_build.specs.Asked.{headSides, headFrame, headInside, floatsOf, fileOrder, workSpace, workOrder}
 
 -- ---- room for 216 sites
 
@@ -76,25 +75,28 @@ module _ {s : List ℕ} {hd : Head} {ss : List ℕ} (f : CountFile s hd ss) wher
 
   -- the number in lists of any lengths that are long enough: 3 and 5 to 7 never come
   space-status : (L : Lengths) → Ample L → status (fileOrder hd (floatsOf ss) L)
-      ≡ cond (not (settingsOk (getD (hd .sizes) 3 0) (getD (hd .sizes) 4 0))) 1 (cond (not (box.sidesOk (headSides hd))) 2 (cond (not (frameOk (headFrame hd))) 4 0))
+      ≡ cond (not (settingsOk (getD (hd .sizes) 3 0) (getD (hd .sizes) 4 0))) 1 (cond (not (box.sidesOk (headSides hd))) 2
+      (cond (not (frameOk (headFrame hd))) 4 (cond (not (insideOk (headInside hd))) 14 0)))
   unfolding statusOf siteRoom vertexRoom cellRoom
   space-status L a =
       let n = headSides hd in
       let S = floatsOf ss in
       let c = cells-room n few in
-      let x = most-room n S base few in
+      let h = headInside hd in
+      let x = most-room n S h few in
       rw (
         eq-eqb (length S) (box.sites n) file-sites,
         le-leb (box.sites n) (L .masks) (omega (arith, few)),
         le-leb (7 * box.sites n) (L .table) (omega (arith, few)),
-        le-leb (3 * most n S base) (L .vertices) (omega arith),
-        le-leb (4 * most n S base) (L .book) (omega arith),
+        le-leb (3 * most n S h) (L .vertices) (omega arith),
+        le-leb (4 * most n S h) (L .book) (omega arith),
         le-leb (36 * box.cells n) (L .triangles) (omega arith),
         le-leb (108 * box.cells n) (L .edges) (omega arith),
       )
 
   pub file-status : status (workOrder hd (floatsOf ss))
-      ≡ cond (not (settingsOk (getD (hd .sizes) 3 0) (getD (hd .sizes) 4 0))) 1 (cond (not (box.sidesOk (headSides hd))) 2 (cond (not (frameOk (headFrame hd))) 4 0))
+      ≡ cond (not (settingsOk (getD (hd .sizes) 3 0) (getD (hd .sizes) 4 0))) 1 (cond (not (box.sidesOk (headSides hd))) 2
+      (cond (not (frameOk (headFrame hd))) 4 (cond (not (insideOk (headInside hd))) 14 0)))
   file-status = space-status workSpace enough
 
   -- what the build answers does not depend on the work space

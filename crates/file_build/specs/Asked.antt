@@ -27,12 +27,15 @@ pointOf l = record { x = ofBits binary64 (getD l 0 0); y = ofBits binary64 (getD
 unfoldable pub headFrame : Head → Frame
 headFrame h = frameOf (pointOf (h .origin)) (pointOf (h .steps))
 
+unfoldable pub headInside : Head → Float
+headInside h = ofBits binary64 (h .inside)
+
 unfoldable pub floatsOf : List ℕ → List Float
 floatsOf ss = map (ofBits binary64) ss
 
 -- the order of a file in lists of such lengths
 abbrev pub fileOrder : Head → List Float → Lengths → Order
-fileOrder h S L = order (headSides h) (getD (h .sizes) 3 0) (getD (h .sizes) 4 0) (headFrame h) S L
+fileOrder h S L = order (headSides h) (getD (h .sizes) 3 0) (getD (h .sizes) 4 0) (headInside h) (headFrame h) S L
 
 -- lists for 216 sites: a mask and seven owned edges each, three vertices for two of these edges, a cell each
 abbrev pub workSpace : Lengths

@@ -7,7 +7,7 @@ use points::Frame;
 use points::Point;
 ghost use mathlib.Core.Path.{_≡_};
 ghost use Rattle.build.specs.Answer.{lists, lengthsOf, BuildOf};
-ghost use Rattle.file_build.specs.Asked.{headSides, pointOf, headFrame, floatsOf, fileOrder, BuiltOf};
+ghost use Rattle.file_build.specs.Asked.{headSides, pointOf, headFrame, headInside, floatsOf, fileOrder, BuiltOf};
 
 // The sides of a header.
 pub fn sides_of(head: Head) -> Sides
@@ -41,6 +41,13 @@ fn head_frame(head: Head) -> Frame
     points::frame_of(point_of(from), point_of(by))
 }
 
+// The threshold of a header.
+pub fn inside_of(head: Head) -> f64
+    ensures { λ r. ⌜ r ≡ headInside head ⌝ }
+{
+    points::float_of_bits(head.inside)
+}
+
 // The floats of the samples' bits.
 pub fn floats_of(bits: [u64; count_file::SITES]) -> [f64; count_file::SITES]
     ensures { λ r. ⌜ r ≡ floatsOf bits ⌝ }
@@ -67,6 +74,7 @@ fn build_head(
 {
     let frame = head_frame(head);
     let n = sides_of(head);
+    let threshold = inside_of(head);
     let sizes = head.sizes;
     let method = sizes[3] as usize;
     let rounds = sizes[4] as usize;
@@ -74,6 +82,7 @@ fn build_head(
         n,
         method,
         rounds,
+        threshold,
         frame,
         samples,
         masks,

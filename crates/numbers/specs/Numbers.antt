@@ -32,13 +32,15 @@ use Rattle.topology.specs.Flat.{collapses, collapsesAt, pairsCollapse, rowFlat,
 use Rattle.topology.specs.Topology.{kindOf, singles, result, caseOf, visitsOf, topologyOf}
 use Rattle.cases.specs.Cases.{caseFrom}
 
--- ---- what is asked, and what is answered, with the threshold 1.0e-9
+-- ---- what is asked, and what is answered, with the threshold 1.0e-9 or, where it is given first, another
 
 pub data Ask : Type 0 where
   -- which side is the value on?
   side : Float → Ask
+  sideAt : Float → Float → Ask
   -- a box of 2 x 1 x 1 sites with these samples: its one edge leads from site 0, the owner, to site 1
   edge : Float → Float → Ask
+  edgeAt : Float → Float → Float → Ask
   -- a fraction, to be held
   toHold : Float → Ask
   -- at which fraction does the point on an edge stand, from the first value towards the second?
@@ -51,9 +53,11 @@ pub data Ask : Type 0 where
   walking : ℕ → Ask
   -- the topology test of a mask, to be clustered or not, with the samples at the fourteen ends
   near : ℕ → List Sample → Ask
+  nearAt : Float → ℕ → List Sample → Ask
   unclustered : ℕ → Ask
   -- a tetrahedron with these samples at its four corners
   tetrahedron : Sample → Sample → Sample → Sample → Ask
+  tetrahedronAt : Float → Sample → Sample → Sample → Sample → Ask
 
 pub data Answer : Type 0 where
   -- whether it is inside
@@ -78,15 +82,19 @@ pair = record { nu = 2; nv = 1; nw = 1 }
 
 unfoldable pub answer : Ask → Answer
 answer (side v) = isInside (inside v base)
+answer (sideAt h v) = isInside (inside v h)
 answer (edge a b) = isCrossed (crossing a b base) (masksOf pair (a ∷ b ∷ []) base)
+answer (edgeAt h a b) = isCrossed (crossing a b h) (masksOf pair (a ∷ b ∷ []) h)
 answer (toHold t) = isFraction (hold t)
 answer (point a b) = isFraction (pointFraction a b)
 answer (both e f) = areSo (areNeighbours e f)
 answer (beside e m) = areThese (bitAnd (neighbourMask e) m)
 answer (walking m) = areMany (visits m)
 answer (near m ends) = isCase (topologyOf m true ends base)
+answer (nearAt h m ends) = isCase (topologyOf m true ends h)
 answer (unclustered m) = isCase (topologyOf m false noEnds base)
 answer (tetrahedron a b c d) = hasTriangles (caseFrom a b c d base) (length (mtRow (caseFrom a b c d base)))
+answer (tetrahedronAt h a b c d) = hasTriangles (caseFrom a b c d h) (length (mtRow (caseFrom a b c d h)))
 
 -- ---- how the rows are written
 
@@ -106,6 +114,16 @@ afterOne = ofBits binary64 0x3FF0000000000001
 -- a hair below -1.0e-9: the next f64
 abbrev pub hair : Float
 hair = ofBits binary64 0xBE112E0BE826D696
+
+-- 0.25; -0.9 and -1.1
+abbrev pub quarter : Float
+quarter = ofBits binary64 0x3FD0000000000000
+
+abbrev pub above : Float
+above = ofBits binary64 0xBFECCCCCCCCCCCCD
+
+abbrev pub below : Float
+below = ofBits binary64 0xBFF199999999999A
 
 -- a set of edges as a mask
 abbrev pub only : List ℕ → ℕ
@@ -179,6 +197,26 @@ table =
     ∷ row (toHold nan) (isFraction nan)
     ∷ row (toHold (inf true)) (isFraction (plus 0))
     ∷ row (toHold (inf false)) (isFraction (plus 1))
+    -- other thresholds. −h is outside and the next f64 below it inside; 0.0 and −0.0 are outside for all, and with 0 all that is below them is inside
+    ∷ row (sideAt quarter (neg quarter)) (isInside false)
+    ∷ row (sideAt quarter (ofBits binary64 0xBFD0000000000001)) (isInside true)
+    ∷ row (sideAt (plus 1) (minus 1)) (isInside false)
+    ∷ row (sideAt (plus 1) (neg afterOne)) (isInside true)
+    ∷ row (sideAt (plus 0) (minus 0)) (isInside false)
+    ∷ row (sideAt (minus 0) (minus 0)) (isInside false)
+    ∷ row (sideAt (minus 0) (plus 0)) (isInside false)
+    ∷ row (sideAt (plus 0) (least true)) (isInside true)
+    ∷ row (sideAt (minus 0) (least true)) (isInside true)
+    ∷ row (sideAt (least false) (least true)) (isInside false)
+    -- with 1 the surface runs between −0.9 and −1.1. The fraction is where the values would cross 0, outside the edge, and the point is held at the end of −0.9
+    ∷ row (edgeAt (plus 1) above below) (isCrossed (At (ofBits binary64 0xC011FFFFFFFFFFFE)) byOwner)
+    ∷ row (edgeAt (plus 1) below above) (isCrossed (At (ofBits binary64 0x4015FFFFFFFFFFFE)) byOther)
+    ∷ row (point above below) (isFraction (plus 0))
+    ∷ row (point below above) (isFraction (plus 1))
+    ∷ row (edge above below) (isCrossed SameSide nobody)
+    -- with 0 two ends of different sides may be as near as the least f64 and 0
+    ∷ row (edgeAt (plus 0) (plus 0) (least true)) (isCrossed (At (plus 0)) byOwner)
+    ∷ row (edgeAt (plus 0) (least false) (fin true 3 (negsuc 1073))) (isCrossed (At quarter) byOwner)
     -- neighbours' deltas differ by 2 on the first axis, or by 1 on two; not by 2 on the second or the third, by 4 in all, or by nothing
     ∷ row (both 0 9) (areSo true)
     ∷ row (both 0 4) (areSo true)
@@ -213,6 +251,9 @@ table =
     ∷ row (near 0x2014 (fourEnds (plus 1) (minus 3))) (says FlatHole ((2 ∷ []) ∷ (4 ∷ []) ∷ (13 ∷ []) ∷ []) 14)
     ∷ row (near 0x2014 (fourEnds (plus 3) (minus 3))) (says SimpleSurface ((2 ∷ 4 ∷ 13 ∷ []) ∷ []) 14)
     ∷ row (near 0x2014 (fourEnds (plus 1) (inf true))) (says SimpleSurface ((2 ∷ 4 ∷ 13 ∷ []) ∷ []) 14)
+    -- nor with the threshold 1 where −1 takes the place of −3: then no end is inside
+    ∷ row (near 0x2014 (fourEnds quarter (minus 1))) (says FlatHole ((2 ∷ []) ∷ (4 ∷ []) ∷ (13 ∷ []) ∷ []) 14)
+    ∷ row (nearAt (plus 1) 0x2014 (fourEnds quarter (minus 1))) (says SimpleSurface ((2 ∷ 4 ∷ 13 ∷ []) ∷ []) 14)
     -- not to be clustered: no walk
     ∷ row (unclustered 0x0000) (says SimpleSurface [] 0)
     ∷ row (unclustered 0x2014) (says DoNotCluster ((2 ∷ []) ∷ (4 ∷ []) ∷ (13 ∷ []) ∷ []) 0)
@@ -224,6 +265,9 @@ table =
     ∷ row (tetrahedron within outside Missing outside) (hasTriangles 0 0)
     ∷ row (tetrahedron within within outside outside) (hasTriangles 3 2)
     ∷ row (tetrahedron within within within within) (hasTriangles 15 0)
+    -- with the threshold 1 a corner of −1 is outside
+    ∷ row (tetrahedronAt (plus 1) within outside outside outside) (hasTriangles 0 0)
+    ∷ row (tetrahedronAt (plus 1) (Value (minus 3)) within outside outside) (hasTriangles 1 1)
     ∷ []
 
 pub numbers : map (λ (r : Row). answer (r .ask)) table ≡ map (λ (r : Row). r .gets) table

@@ -8,13 +8,13 @@ use Rattle.little_endian.specs.Bytes.{bytesOf}
 use Rattle.points.specs.Positions.{frameOf}
 use Rattle.points.specs.Limits.{originOk, stepOk, originsOk, stepsOk, frameOk}
 use Rattle.lattice.specs.Sites.{sideOk, sidesOk, cells}
-use Rattle.refusals.specs.Refusals.{settingsOk, siteRoom, vertexRoom, cellRoom, most, statusOf}
+use Rattle.refusals.specs.Refusals.{settingsOk, insideOk, siteRoom, vertexRoom, cellRoom, most, statusOf}
 use Rattle.stages.proofs.Examples.{stagesKey}
 use Rattle.build.specs.Answer.{Order, status, orderBox, orderVertices, orderPositions, orderTriangles}
 use Rattle.lines.specs.Numbers.{digits, dec}
 use Rattle.count_file.specs.Example as count
 use Rattle.count_file.proofs.Example.{example-file}
-use Rattle.file_build.specs.Asked.{headSides, pointOf, headFrame, floatsOf, workOrder}
+use Rattle.file_build.specs.Asked.{headSides, pointOf, headFrame, headInside, floatsOf, workOrder}
 use Rattle.file_build.specs.Told.{file}
 use Rattle.ply_write.specs.Form.{headText, wordsText, faceText, facesText, plyText}
 use Rattle.ply_write.specs.Answers.{bitsOf}
@@ -27,15 +27,15 @@ abbrev asked : Order
 asked = workOrder count.exampleHead (floatsOf count.exampleSamples)
 
 granted : status asked ≡ 0
-unfolding stagesKey le originOk stepOk originsOk stepsOk frameOk sideOk sidesOk cells settingsOk siteRoom vertexRoom cellRoom most statusOf headSides pointOf frameOf headFrame floatsOf
+unfolding stagesKey le originOk stepOk originsOk stepsOk frameOk sideOk sidesOk cells settingsOk insideOk siteRoom vertexRoom cellRoom most statusOf headSides pointOf frameOf headFrame headInside floatsOf
 granted = refl
 
 positions : orderPositions asked ≡ map (ofBits binary64) exampleWords
-unfolding stagesKey orderBox orderVertices headSides pointOf frameOf headFrame floatsOf
+unfolding stagesKey orderBox orderVertices headSides pointOf frameOf headFrame headInside floatsOf
 positions = refl
 
 triangles : orderTriangles asked ≡ exampleTriangles
-unfolding stagesKey orderBox orderVertices headSides pointOf frameOf headFrame floatsOf
+unfolding stagesKey orderBox orderVertices headSides pointOf frameOf headFrame headInside floatsOf
 triangles = refl
 
 bits : bitsOf (map (ofBits binary64) exampleWords) ≡ exampleWords

@@ -15,7 +15,7 @@ use Rattle.lattice.proofs.Sites.{sides-fit, fit-sides}
 use Rattle.points.specs.declared.Frame.{Frame}
 use Rattle.points.specs.Limits.{frameOk}
 use Rattle.refusals.specs.declared.Lengths.{Lengths}
-use Rattle.refusals.specs.Refusals.{settingsOk, siteRoom, vertexRoom, cellRoom, most, statusOf}
+use Rattle.refusals.specs.Refusals.{settingsOk, insideOk, siteRoom, vertexRoom, cellRoom, most, statusOf}
 use Rattle.refusals.specs.Inner.Granted.{Granted}
 use Rattle.refusals.proofs.Status.{not-refused}
 
@@ -72,7 +72,8 @@ module _ (n : Sides) (method R : ℕ) (f : Frame) (S : List Float) (L : Lengths)
       let q = past (sidesOk n) 1 _ (p .1) in
       let r = past (eqb (length S) (sites n)) 2 _ (q .1) in
       let s = past (frameOk f) 3 _ (r .1) in
-      let t = past (siteRoom (sites n) L) 4 _ (s .1) in
+      let i = past (insideOk h) 13 _ (s .1) in
+      let t = past (siteRoom (sites n) L) 4 _ (i .1) in
       let u = past (vertexRoom (most n S h) L) 5 _ (t .1) in
       let v = past (cellRoom (cells n) L) 6 _ (u .1) in
       let a = settings-low method R (p .0) in
@@ -85,6 +86,7 @@ module _ (n : Sides) (method R : ℕ) (f : Frame) (S : List Float) (L : Lengths)
         rounds-low = a .1;
         samples = eqb-true (length S) (sites n) (r .0);
         frame = s .0;
+        threshold = i .0;
         masks = b .0;
         table = b .1;
         vertices = c .0;
@@ -100,6 +102,7 @@ module _ (n : Sides) (method R : ℕ) (f : Frame) (S : List Float) (L : Lengths)
       (record {
         sized = record { settings = low-settings method R (g .method-low) (g .rounds-low); sides = fit-sides n (g .fit); samples = g .samples };
         frame = g .frame;
+        threshold = g .threshold;
         room = long-site (sites n) L (g .masks) (g .table);
       })
       (long-vertex (most n S h) L (g .vertices) (g .book))

@@ -1,10 +1,10 @@
--- The lowest number wins: a request has the number k exactly if test k fails and every test before it passes. Assumes nothing.
-use mathlib.Core.Path.{_≡_, refl, sym, _∙_}
+-- The first test that fails gives the number: a request has the number at place i of the table exactly if test i fails and every test before it passes. Assumes nothing.
+use mathlib.Core.Path.{_≡_, refl, sym, ap, _∙_}
 use mathlib.Core.Bool.{Bool, true, false, not, cond, true≢false, false≢true}
 use mathlib.Core.List.{List, [], _∷_}
-use Prim.Native.Nat.{ℕ, zero, suc, _+_, _≤_, _<_}
+use Prim.Native.Nat.{ℕ, zero, suc, _-_, _<_}
 use native.Mathlib.Omega.{arith}
-use lib.Dec.{eqb}
+use lib.Dec.{eqb, leb}
 use lib.Ieee.{Float}
 use lib.ListN.{length, getD}
 use Rattle.lattice.specs.declared.Sides.{Sides}
@@ -12,17 +12,29 @@ use Rattle.lattice.specs.Sites.{sidesOk, sites, cells}
 use Rattle.points.specs.declared.Frame.{Frame}
 use Rattle.points.specs.Limits.{frameOk}
 use Rattle.refusals.specs.declared.Lengths.{Lengths}
-use Rattle.refusals.specs.Refusals.{settingsOk, siteRoom, vertexRoom, cellRoom, most, statusOf}
+use Rattle.refusals.specs.Refusals.{settingsOk, insideOk, siteRoom, vertexRoom, cellRoom, most, statusOf}
 
--- the number of the first test that fails, counted from k; 0 where none does
-unfoldable lowest : ℕ → List Bool → ℕ
-lowest k [] = 0
-lowest k (b ∷ bs) = cond (not b) k (lowest (suc k) bs)
+-- the numbers of the table, in its order
+abbrev pub numbers : List ℕ
+numbers = 1 ∷ 2 ∷ 3 ∷ 4 ∷ 14 ∷ 5 ∷ 6 ∷ 7 ∷ []
 
--- of a list of tests, number i + 1 is the first to fail
+-- the number of the first test that fails; 0 where none does
+unfoldable lowest : List ℕ → List Bool → ℕ
+lowest [] bs = 0
+lowest (k ∷ ks) [] = 0
+lowest (k ∷ ks) (b ∷ bs) = cond (not b) k (lowest ks bs)
+
+-- of a list of tests, the one at place i is the first to fail
 pub record FirstAt (l : List Bool) (i : ℕ) : Type 0 where
   pub fails : getD l i true ≡ false
   pub before : (j : ℕ) → j < i → getD l j true ≡ true
+
+-- that has the number k
+record Placed (ks : List ℕ) (l : List Bool) (k : ℕ) : Type 0 where
+  place : ℕ
+  within : place < length ks
+  number : getD ks place 0 ≡ k
+  first : FirstAt l place
 
 first-next : {b : Bool} {l : List Bool} {i : ℕ} → b ≡ true → FirstAt l i → FirstAt (b ∷ l) (suc i)
 first-next {b} {l} {i} e f = record { fails = f .fails; before = passes }
@@ -31,41 +43,62 @@ first-next {b} {l} {i} e f = record { fails = f .fails; before = passes }
     passes zero h = e
     passes (suc j) h = f .before j (omega arith)
 
--- no number before the first of those counted
-lowest-more : (l : List Bool) (k i : ℕ) → lowest (suc k) l ≡ suc i → k ≤ i
+lowest-placed : (ks : List ℕ) (l : List Bool) (k : ℕ) → lowest ks l ≡ suc k → Placed ks l (suc k)
 unfolding lowest
-lowest-more [] k i e = omega arith
-lowest-more (false ∷ l) k i e = omega arith
-lowest-more (true ∷ l) k i e = omega (arith, lowest-more l (suc k) i e)
+lowest-placed [] l k e = absurd (omega arith)
+lowest-placed (n ∷ ks) [] k e = absurd (omega arith)
+lowest-placed (n ∷ ks) (false ∷ l) k e = record { place = 0; within = omega arith; number = e; first = record { fails = refl; before = λ j h. absurd (omega arith) } }
+lowest-placed (n ∷ ks) (true ∷ l) k e =
+    let p = lowest-placed ks l k e in
+    record { place = suc (p .place); within = omega (arith, p .within); number = p .number; first = first-next refl (p .first) }
 
-lowest-first : (l : List Bool) (k i : ℕ) → lowest (suc k) l ≡ suc (k + i) → FirstAt l i
+first-lowest : (ks : List ℕ) (l : List Bool) (i : ℕ) → length l ≡ length ks → FirstAt l i → lowest ks l ≡ getD ks i 0
 unfolding lowest
-lowest-first [] k i e = absurd (omega arith)
-lowest-first (false ∷ l) k zero e = record { fails = refl; before = λ j h. absurd (omega arith) }
-lowest-first (false ∷ l) k (suc i) e = absurd (omega arith)
-lowest-first (true ∷ l) k zero e = absurd (omega (arith, lowest-more l (suc k) (k + 0) e))
-lowest-first (true ∷ l) k (suc i) e = first-next refl (lowest-first l (suc k) i (e ∙ omega arith))
+first-lowest ks [] i h f = absurd (true≢false (f .fails))
+first-lowest [] (b ∷ l) i h f = absurd (omega arith)
+first-lowest (k ∷ ks) (false ∷ l) zero h f = refl
+first-lowest (k ∷ ks) (false ∷ l) (suc i) h f = absurd (false≢true (f .before 0 (omega arith)))
+first-lowest (k ∷ ks) (true ∷ l) zero h f = absurd (true≢false (f .fails))
+first-lowest (k ∷ ks) (true ∷ l) (suc i) h f = first-lowest ks l i (omega arith) (record { fails = f .fails; before = λ j g. f .before (suc j) (omega arith) })
 
-first-lowest : (l : List Bool) (k i : ℕ) → FirstAt l i → lowest (suc k) l ≡ suc (k + i)
-unfolding lowest
-first-lowest [] k i f = absurd (true≢false (f .fails))
-first-lowest (false ∷ l) k zero f = omega arith
-first-lowest (false ∷ l) k (suc i) f = absurd (false≢true (f .before 0 (omega arith)))
-first-lowest (true ∷ l) k zero f = absurd (true≢false (f .fails))
-first-lowest (true ∷ l) k (suc i) f = first-lowest l (suc k) i (record { fails = f .fails; before = λ j h. f .before (suc j) (omega arith) }) ∙ omega arith
+-- no number stands twice in the table, and none is 0
+abbrev placeOf : ℕ → ℕ
+placeOf k = cond (eqb k 14) 4 (cond (leb 5 k) k (k - 1))
+
+record Known (i : ℕ) : Type 0 where
+  once : placeOf (getD numbers i 0) ≡ i
+  some : eqb (getD numbers i 0) 0 ≡ false
+
+known : (i : ℕ) → i < 8 → Known i
+known zero h = record { once = refl; some = refl }
+known (suc zero) h = record { once = refl; some = refl }
+known (suc (suc zero)) h = record { once = refl; some = refl }
+known (suc (suc (suc zero))) h = record { once = refl; some = refl }
+known (suc (suc (suc (suc zero)))) h = record { once = refl; some = refl }
+known (suc (suc (suc (suc (suc zero))))) h = record { once = refl; some = refl }
+known (suc (suc (suc (suc (suc (suc zero)))))) h = record { once = refl; some = refl }
+known (suc (suc (suc (suc (suc (suc (suc zero))))))) h = record { once = refl; some = refl }
+known (suc (suc (suc (suc (suc (suc (suc (suc i)))))))) h = absurd (omega arith)
 
 module _ (n : Sides) (method R : ℕ) (f : Frame) (S : List Float) (L : Lengths) (h : Float) where
-  -- the seven tests of the table, in its order
+  -- the eight tests of the table, in its order
   abbrev pub tests : List Bool
   tests =
-      settingsOk method R ∷ sidesOk n ∷ eqb (length S) (sites n) ∷ frameOk f ∷ siteRoom (sites n) L ∷ vertexRoom (most n S h) L ∷ cellRoom (cells n) L ∷ []
+      settingsOk method R ∷ sidesOk n ∷ eqb (length S) (sites n) ∷ frameOk f ∷ insideOk h ∷ siteRoom (sites n) L ∷ vertexRoom (most n S h) L ∷ cellRoom (cells n) L ∷ []
 
-  status-is : statusOf n method R f S L h ≡ lowest 1 tests
+  status-is : statusOf n method R f S L h ≡ lowest numbers tests
   unfolding statusOf lowest
   status-is = refl
 
-  pub status-lowest : (i : ℕ) → statusOf n method R f S L h ≡ suc i → FirstAt tests i
-  status-lowest i e = lowest-first tests 0 i (sym status-is ∙ e ∙ omega arith)
+  pub status-lowest : (i : ℕ) → i < 8 → statusOf n method R f S L h ≡ getD numbers i 0 → FirstAt tests i
+  status-lowest i l e = go (getD numbers i 0) refl (sym status-is ∙ e)
+    where
+      go : (k : ℕ) → getD numbers i 0 ≡ k → lowest numbers tests ≡ k → FirstAt tests i
+      go zero q r = absurd (true≢false (sym (ap (λ (n : ℕ). eqb n 0) q) ∙ known i l .some))
+      go (suc k) q r =
+          let p = lowest-placed numbers tests k r in
+          let m : p .place ≡ i = sym (known (p .place) (p .within) .once) ∙ ap placeOf (p .number ∙ sym q) ∙ known i l .once in
+          rw m at (p .first)
 
-  pub lowest-status : (i : ℕ) → FirstAt tests i → statusOf n method R f S L h ≡ suc i
-  lowest-status i f = status-is ∙ first-lowest tests 0 i f ∙ omega arith
+  pub lowest-status : (i : ℕ) → FirstAt tests i → statusOf n method R f S L h ≡ getD numbers i 0
+  lowest-status i f = status-is ∙ first-lowest numbers tests i refl f

@@ -20,7 +20,7 @@ use Rattle.points.specs.declared.Frame.{Frame}
 use Rattle.points.specs.Limits.{frameOk}
 use Rattle.refusals.specs.declared.Lengths.{Lengths}
 use Rattle.refusals.specs.declared.Reply.{Reply}
-use Rattle.refusals.specs.Refusals.{settingsOk, siteRoom, vertexRoom, cellRoom, most, statusOf, requestOf}
+use Rattle.refusals.specs.Refusals.{settingsOk, insideOk, siteRoom, vertexRoom, cellRoom, most, statusOf, requestOf}
 
 -- ---- the size of E: at most seven a site
 
@@ -47,7 +47,7 @@ passed {r} p q = sym p ∙ not-false r q
 pub failed : {r b : Bool} → r ≡ b → not r ≡ true → b ≡ false
 failed {r} p q = sym p ∙ not-true r q
 
-step-most : (b : Bool) (k r : ℕ) → k ≤ 7 → r ≤ 7 → cond (not b) k r ≤ 7
+step-most : (b : Bool) (k r : ℕ) → k ≤ 14 → r ≤ 14 → cond (not b) k r ≤ 14
 step-most true k r p q = q
 step-most false k r p q = p
 
@@ -57,10 +57,11 @@ pub record Sized (n : Sides) (method R : ℕ) (S : List Float) : Type 0 where
   pub sides : sidesOk n ≡ true
   pub samples : length S ≡ sites n
 
--- past the tests 1 to 5
-pub record Stored (n : Sides) (method R : ℕ) (f : Frame) (S : List Float) (L : Lengths) : Type 0 where
+-- past the tests 1 to 4, 14 and 5
+pub record Stored (n : Sides) (method R : ℕ) (f : Frame) (S : List Float) (L : Lengths) (h : Float) : Type 0 where
   pub sized : Sized n method R S
   pub frame : frameOk f ≡ true
+  pub threshold : insideOk h ≡ true
   pub room : siteRoom (sites n) L ≡ true
 
 module _ (n : Sides) (method R : ℕ) (f : Frame) (S : List Float) (L : Lengths) (h : Float) where
@@ -80,21 +81,25 @@ module _ (n : Sides) (method R : ℕ) (f : Frame) (S : List Float) (L : Lengths)
   unfolding statusOf
   refused-frame p a = rw (p .settings, p .sides, eq-eqb (length S) (sites n) (p .samples), a)
 
-  pub refused-site-room : Sized n method R S → frameOk f ≡ true → siteRoom (sites n) L ≡ false → statusOf n method R f S L h ≡ 5
+  pub refused-inside : Sized n method R S → frameOk f ≡ true → insideOk h ≡ false → statusOf n method R f S L h ≡ 14
   unfolding statusOf
-  refused-site-room p a b = rw (p .settings, p .sides, eq-eqb (length S) (sites n) (p .samples), a, b)
+  refused-inside p a b = rw (p .settings, p .sides, eq-eqb (length S) (sites n) (p .samples), a, b)
 
-  pub refused-vertex-room : Stored n method R f S L → vertexRoom (most n S h) L ≡ false → statusOf n method R f S L h ≡ 6
+  pub refused-site-room : Sized n method R S → frameOk f ≡ true → insideOk h ≡ true → siteRoom (sites n) L ≡ false → statusOf n method R f S L h ≡ 5
   unfolding statusOf
-  refused-vertex-room p a = rw (p .sized .settings, p .sized .sides, eq-eqb (length S) (sites n) (p .sized .samples), p .frame, p .room, a)
+  refused-site-room p a b d = rw (p .settings, p .sides, eq-eqb (length S) (sites n) (p .samples), a, b, d)
 
-  pub refused-cell-room : Stored n method R f S L → vertexRoom (most n S h) L ≡ true → cellRoom (cells n) L ≡ false → statusOf n method R f S L h ≡ 7
+  pub refused-vertex-room : Stored n method R f S L h → vertexRoom (most n S h) L ≡ false → statusOf n method R f S L h ≡ 6
   unfolding statusOf
-  refused-cell-room p a b = rw (p .sized .settings, p .sized .sides, eq-eqb (length S) (sites n) (p .sized .samples), p .frame, p .room, a, b)
+  refused-vertex-room p a = rw (p .sized .settings, p .sized .sides, eq-eqb (length S) (sites n) (p .sized .samples), p .frame, p .threshold, p .room, a)
 
-  pub not-refused : Stored n method R f S L → vertexRoom (most n S h) L ≡ true → cellRoom (cells n) L ≡ true → statusOf n method R f S L h ≡ 0
+  pub refused-cell-room : Stored n method R f S L h → vertexRoom (most n S h) L ≡ true → cellRoom (cells n) L ≡ false → statusOf n method R f S L h ≡ 7
   unfolding statusOf
-  not-refused p a b = rw (p .sized .settings, p .sized .sides, eq-eqb (length S) (sites n) (p .sized .samples), p .frame, p .room, a, b)
+  refused-cell-room p a b = rw (p .sized .settings, p .sized .sides, eq-eqb (length S) (sites n) (p .sized .samples), p .frame, p .threshold, p .room, a, b)
+
+  pub not-refused : Stored n method R f S L h → vertexRoom (most n S h) L ≡ true → cellRoom (cells n) L ≡ true → statusOf n method R f S L h ≡ 0
+  unfolding statusOf
+  not-refused p a b = rw (p .sized .settings, p .sized .sides, eq-eqb (length S) (sites n) (p .sized .samples), p .frame, p .threshold, p .room, a, b)
 
   -- ---- the reply
 
@@ -123,12 +128,13 @@ module _ (n : Sides) (method R : ℕ) (f : Frame) (S : List Float) (L : Lengths)
       ap (λ (x : Reply). x .crossed) p
       ∙ ap (λ (b : Bool). cond b (crossedCount n S h) 0) (ne-eqb (statusOf n method R f S L h) 0 (λ e. d (ap (λ (x : Reply). x .status) p ∙ e)))
 
-  pub status-most : statusOf n method R f S L h ≤ 7
+  pub status-most : statusOf n method R f S L h ≤ 14
   unfolding statusOf
   status-most =
       step-most (settingsOk method R) 1 _ (omega arith)
       (step-most (sidesOk n) 2 _ (omega arith)
       (step-most (eqb (length S) (sites n)) 3 _ (omega arith)
       (step-most (frameOk f) 4 _ (omega arith)
+      (step-most (insideOk h) 14 _ (omega arith)
       (step-most (siteRoom (sites n) L) 5 _ (omega arith)
-      (step-most (vertexRoom (most n S h) L) 6 _ (omega arith) (step-most (cellRoom (cells n) L) 7 0 (omega arith) (omega arith)))))))
+      (step-most (vertexRoom (most n S h) L) 6 _ (omega arith) (step-most (cellRoom (cells n) L) 7 0 (omega arith) (omega arith))))))))

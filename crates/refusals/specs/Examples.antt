@@ -2,7 +2,7 @@
 use mathlib.Core.Path.{_≡_, refl}
 use mathlib.Core.List.{List, [], _∷_, _++_}
 use Prim.Native.Nat.{ℕ}
-use lib.Ieee.{Float, binary64, le, sub, ofInt, ofBits}
+use lib.Ieee.{Float, nan, binary64, le, sub, ofInt, ofBits}
 use lib.ListN.{replicate}
 use Rattle.laws.specs.Bools.{bit}
 use Rattle.laws.specs.Ranges.{sum}
@@ -16,11 +16,11 @@ use Rattle.points.specs.declared.Point.{Point}
 use Rattle.points.specs.declared.Frame.{Frame}
 use Rattle.points.specs.Limits.{originOk, stepOk, originsOk, stepsOk, frameOk}
 use Rattle.refusals.specs.declared.Lengths.{Lengths}
-use Rattle.refusals.specs.Refusals.{settingsOk, siteRoom, vertexRoom, cellRoom, most, statusOf, requestOf}
+use Rattle.refusals.specs.Refusals.{settingsOk, insideOk, siteRoom, vertexRoom, cellRoom, most, statusOf, requestOf}
 
 -- `unfolding key` opens the definitions, so that a number computes
 unfoldable key : Unit {0}
-unfolding le sub ofInt ofBits bit sum cornerOf du dv dw inside crossing sideOk sidesOk sites cells inBox siteOf uvwOf step upward acrossAt acrossOf crossedBy isCrossed crossedCount originOk stepOk originsOk stepsOk frameOk settingsOk siteRoom vertexRoom cellRoom most statusOf
+unfolding le sub ofInt ofBits bit sum cornerOf du dv dw inside crossing sideOk sidesOk sites cells inBox siteOf uvwOf step upward acrossAt acrossOf crossedBy isCrossed crossedCount originOk stepOk originsOk stepsOk frameOk settingsOk insideOk siteRoom vertexRoom cellRoom most statusOf
 key = tt
 
 abbrev sides : ℕ → ℕ → ℕ → Sides
@@ -67,6 +67,9 @@ sampled S = statusOf (sides 3 3 3) 1 4 plain S right base
 abbrev framed : Frame → ℕ
 framed f = statusOf (sides 3 3 3) 1 4 f samples right base
 
+abbrev sided : Float → ℕ
+sided h = statusOf (sides 3 3 3) 1 4 plain samples right h
+
 pub just-long-enough : requestOf (sides 3 3 3) 1 4 plain samples right base ≡ record { status = 0; crossed = 14 }
 unfolding key requestOf
 just-long-enough = refl
@@ -97,13 +100,37 @@ pub frames : framed (frame 0xC1CDCD6500000000 0x412E848000000000) ∷ framed (fr
 unfolding key
 frames = refl
 
--- all wrong at once, then one thing after another put right
-pub lowest-wins : statusOf (sides 0 3 3) 2 4 (frame 0 0) [] (lengths 0 0 0 0 0 0) base ∷ statusOf (sides 0 3 3) 1 4 (frame 0 0) [] (lengths 0 0 0 0 0 0) base
-    ∷ statusOf (sides 3 3 3) 1 4 (frame 0 0) [] (lengths 0 0 0 0 0 0) base ∷ statusOf (sides 3 3 3) 1 4 (frame 0 0) samples (lengths 0 0 0 0 0 0) base
-    ∷ lent (lengths 0 0 0 0 0 0) ∷ lent (lengths 27 189 0 0 0 0) ∷ lent (lengths 27 189 63 84 0 0) ∷ []
-    ≡ 1 ∷ 2 ∷ 3 ∷ 4 ∷ 5 ∷ 6 ∷ 7 ∷ []
+-- thresholds: 0, -0.0, the least subnormal, 1.0; then the least subnormal below 0, the next above 1, infinity, minus infinity, a NaN
+abbrev thresholds : (Float → ℕ) → List ℕ
+thresholds k =
+    k (word 0x0000000000000000) ∷ k (word 0x8000000000000000) ∷ k (word 0x0000000000000001) ∷ k (word 0x3FF0000000000000)
+    ∷ k (word 0x8000000000000001) ∷ k (word 0x3FF0000000000001) ∷ k (word 0x7FF0000000000000) ∷ k (word 0xFFF0000000000000) ∷ k (word 0x7FF8000000000000) ∷ []
+
+pub threshold : thresholds sided ≡ 0 ∷ 0 ∷ 0 ∷ 0 ∷ 14 ∷ 14 ∷ 14 ∷ 14 ∷ 14 ∷ []
 unfolding key
-lowest-wins = refl
+threshold = refl
+
+-- each with a step of 0; and with masks that are one short
+pub four-before : thresholds (λ h. statusOf (sides 3 3 3) 1 4 (frame 0 0) samples right h) ≡ replicate 9 4
+unfolding key
+four-before = refl
+
+pub five-after : thresholds (λ h. statusOf (sides 3 3 3) 1 4 plain samples (lengths 26 189 63 84 288 864) h) ≡ 5 ∷ 5 ∷ 5 ∷ 5 ∷ 14 ∷ 14 ∷ 14 ∷ 14 ∷ 14 ∷ []
+unfolding key
+five-after = refl
+
+-- all wrong at once, then one thing after another put right
+pub first-wins : statusOf (sides 0 3 3) 2 4 (frame 0 0) [] (lengths 0 0 0 0 0 0) nan ∷ statusOf (sides 0 3 3) 1 4 (frame 0 0) [] (lengths 0 0 0 0 0 0) nan
+    ∷ statusOf (sides 3 3 3) 1 4 (frame 0 0) [] (lengths 0 0 0 0 0 0) nan ∷ statusOf (sides 3 3 3) 1 4 (frame 0 0) samples (lengths 0 0 0 0 0 0) nan
+    ∷ statusOf (sides 3 3 3) 1 4 plain samples (lengths 0 0 0 0 0 0) nan ∷ lent (lengths 0 0 0 0 0 0) ∷ lent (lengths 27 189 0 0 0 0) ∷ lent (lengths 27 189 63 84 0 0) ∷ []
+    ≡ 1 ∷ 2 ∷ 3 ∷ 4 ∷ 14 ∷ 5 ∷ 6 ∷ 7 ∷ []
+unfolding key
+first-wins = refl
+
+-- E is counted with the threshold: at 1.0 the sample of -1.0 is outside, no edge is crossed, and no room for vertices is asked for
+pub none-crossed : requestOf (sides 3 3 3) 1 4 plain samples (lengths 27 189 0 0 288 864) (word 0x3FF0000000000000) ≡ record { status = 0; crossed = 0 }
+unfolding key requestOf
+none-crossed = refl
 
 -- a refusal gives zero for the count
 pub no-count : requestOf (sides 3 3 3) 1 4 plain samples (lengths 27 189 63 84 288 0) base ≡ record { status = 7; crossed = 0 }

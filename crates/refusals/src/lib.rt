@@ -5,7 +5,7 @@ use points::Frame;
 ghost use mathlib.Core.Path.{_≡_};
 ghost use Prim.Native.Nat.{_*_, _/_, _≤_};
 ghost use Rattle.lattice.specs.Sites.{SidesFit, cells};
-ghost use Rattle.refusals.specs.Refusals.{settingsOk, siteRoom, vertexRoom, cellRoom, requestOf};
+ghost use Rattle.refusals.specs.Refusals.{settingsOk, insideOk, siteRoom, vertexRoom, cellRoom, requestOf};
 
 // Words a cell: of the triangle list, room for twelve triangles, and of the edge list.
 pub const TRIANGLE_WORDS: usize = 36;
@@ -32,6 +32,13 @@ fn settings_ok(method: usize, rounds: usize) -> bool
     ensures { λ r. ⌜ r ≡ settingsOk method rounds ⌝ }
 {
     if method <= 1 { rounds <= 4 } else { false }
+}
+
+// The thresholds that a build takes: 0 to 1. A NaN is neither.
+fn inside_ok(h: f64) -> bool
+    ensures { λ r. ⌜ r ≡ insideOk h ⌝ }
+{
+    if 0.0 <= h { h <= 1.0 } else { false }
 }
 
 // Masks and edge table.
@@ -78,7 +85,7 @@ fn refused(status: usize) -> Reply
     Reply { status, crossed: 0 }
 }
 
-// The lowest number wins. The sides are tested before they are multiplied, and the edges are counted once.
+// The first test that fails gives the number. The sides are tested before they are multiplied, and the edges are counted once.
 pub fn request(
     n: Sides,
     method: usize,
@@ -102,6 +109,9 @@ pub fn request(
     }
     if !points::frame_ok(frame) {
         return refused(4);
+    }
+    if !inside_ok(h) {
+        return refused(14);
     }
     if !site_room(sites, lent) {
         return refused(5);

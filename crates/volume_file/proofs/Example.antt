@@ -9,7 +9,7 @@ use Rattle.laws.specs.Ints.{sizeOf}
 use Rattle.points.specs.Positions.{frameOf}
 use Rattle.points.specs.Limits.{originOk, stepOk, originsOk, stepsOk, frameOk}
 use Rattle.lattice.specs.Sites.{sideOk, sidesOk, cells}
-use Rattle.refusals.specs.Refusals.{settingsOk, siteRoom, vertexRoom, cellRoom, most, statusOf}
+use Rattle.refusals.specs.Refusals.{settingsOk, insideOk, siteRoom, vertexRoom, cellRoom, most, statusOf}
 use Rattle.stages.specs.Meshes.{meshOf}
 use Rattle.stages.proofs.Examples.{stagesKey}
 use Rattle.build.specs.Answer.{Order, status, orderBox, orderVertices, orderPositions, orderTriangles}
@@ -17,7 +17,7 @@ use Rattle.lines.specs.Numbers.{digits, dec}
 use Rattle.lines.specs.Lines.{lineOf}
 use Rattle.count_file.specs.Example as count
 use Rattle.count_file.proofs.Example.{example-file}
-use Rattle.file_build.specs.Asked.{headSides, pointOf, headFrame, floatsOf, workOrder}
+use Rattle.file_build.specs.Asked.{headSides, pointOf, headFrame, headInside, floatsOf, workOrder}
 use Rattle.file_build.specs.Told.{file}
 use Rattle.decimals.specs.Decimals.{signOf, signedDec, pointed, decimal}
 use Rattle.volume.specs.declared.Whole.{Whole}
@@ -34,15 +34,15 @@ abbrev here : Whole
 here = record { x = pos 0; y = pos 0; z = pos 0 }
 
 granted : status asked ≡ 0
-unfolding stagesKey le originOk stepOk originsOk stepsOk frameOk sideOk sidesOk cells settingsOk siteRoom vertexRoom cellRoom most statusOf headSides pointOf frameOf headFrame floatsOf
+unfolding stagesKey le originOk stepOk originsOk stepsOk frameOk sideOk sidesOk cells settingsOk insideOk siteRoom vertexRoom cellRoom most statusOf headSides pointOf frameOf headFrame headInside floatsOf
 granted = refl
 
 triangles : length (meshOf (orderBox asked) (orderVertices asked)) ≡ 12
-unfolding stagesKey orderBox orderVertices headSides pointOf frameOf headFrame floatsOf
+unfolding stagesKey orderBox orderVertices headSides pointOf frameOf headFrame headInside floatsOf
 triangles = refl
 
 found : volumeOf (orderPositions asked) (orderTriangles asked) (scaleOf 3) here ≡ record { status = 0; six = pos 2358000000 }
-unfolding stagesKey volumeKey orderBox orderVertices headSides pointOf frameOf headFrame floatsOf scaleOf ofInt
+unfolding stagesKey volumeKey orderBox orderVertices headSides pointOf frameOf headFrame headInside floatsOf scaleOf ofInt
 found = refl
 
 printed : answerText 3 12 (record { status = 0; six = pos 2358000000 }) ≡ exampleText

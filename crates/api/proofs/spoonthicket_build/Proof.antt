@@ -11,8 +11,8 @@ use borrow.Author.Needs.{needs}
 use Rattle.api.proofs.spoonthicket_build.Statement.{statement}
 use Rattle.api.proofs.spoonthicket_build.Tie as tie
 
-framed : {n : Sides} {method R : ℕ} {f g : Frame} {S : List Float} {l l′ : Lists} {a : Answer} → f ≡ g → BuildIn n method R f S l l′ a → BuildIn n method R g S l l′ a
-framed {n} {method} {R} {S = S} {l} {l′} {a} e h = subst (λ (x : Frame). BuildIn n method R x S l l′ a) e h
+framed : {n : Sides} {method R : ℕ} {h : Float} {f g : Frame} {S : List Float} {l l′ : Lists} {a : Answer} → f ≡ g → BuildIn n method R h f S l l′ a → BuildIn n method R h g S l l′ a
+framed {n} {method} {R} {h} {S = S} {l} {l′} {a} e b = subst (λ (x : Frame). BuildIn n method R h x S l l′ a) e b
 
 frame-at-requires : tie.Need-frame-at-requires
 frame-at-requires c κs = search needs

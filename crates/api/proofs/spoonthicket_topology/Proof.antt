@@ -2,7 +2,6 @@
 use mathlib.Core.Path.{ap, _∙_}
 use mathlib.Core.List.{List, [], _∷_}
 use lib.Dec.{eqb}
-use Rattle.samples.specs.Sides.{base}
 use Rattle.samples.specs.declared.Sample.{Sample}
 use Rattle.topology.specs.declared.TopologyResult.{TopologyResult}
 use Rattle.topology.specs.Topology.{topologyOf, caseNumber}
@@ -23,7 +22,7 @@ returns : tie.Need-returns
 returns c =
     let t = c .before .before .before in
     let a = t .before .before .args in
-    let known = ap (λ (l : List Sample). topologyOf (a .mask) (eqb (a .method) 1) l base) (t .before .ends-at .ensures) in
+    let known = ap (λ (l : List Sample). topologyOf (a .mask) (eqb (a .method) 1) l (a .inside)) (t .before .ends-at .ensures) in
     let found = t .test-topology .ensures ∙ known in
     record {
       case = c .case-number .ensures ∙ ap (λ (r : TopologyResult). caseNumber (r .case)) found;

@@ -2,7 +2,6 @@
 use Rattle.build.proofs.Answering.{refused-build, order-grantable, done-build}
 use Rattle.build.specs.Answer.{order, lists, lengthsOf}
 use Rattle.refusals.proofs.Status.{reply-status, reply-crossed}
-use Rattle.samples.specs.Sides.{base}
 use mathlib.Core.Path.{refl, sym, _∙_}
 use borrow.Author.Needs.{needs}
 use Rattle.build.proofs.build.Statement.{statement}
@@ -18,16 +17,16 @@ returns : tie.Need-returns
 returns c =
     let a = c .before .before .before .before .before .before .before .before .before .before .before .args in
     let y = c .before .before .before .request in
-    let o = order (a .n) (a .method) (a .rounds) (a .frame) (a .samples .now) (lengthsOf (lists (a .masks .now) (a .table .now) (a .positions .now) (a .book .now) (a .tris .now) (a .edges .now))) in
-    let e = reply-status (a .n) (a .method) (a .rounds) (a .frame) (a .samples .now) (o .lent) base (y .result) (y .ensures) in
+    let o = order (a .n) (a .method) (a .rounds) (a .threshold) (a .frame) (a .samples .now) (lengthsOf (lists (a .masks .now) (a .table .now) (a .positions .now) (a .book .now) (a .tris .now) (a .edges .now))) in
+    let e = reply-status (a .n) (a .method) (a .rounds) (a .frame) (a .samples .now) (o .lent) (a .threshold) (y .result) (y .ensures) in
     refused-build o (λ z. c .before .if1 .taken (e ∙ z)) e (c .refused .ensures)
 
 grant-requires : tie.Need-grant-requires
 grant-requires c κs =
     let a = c .before .before .before .before .before .before .before .before .before .before .before .before .before .before .before .before .args in
     let y = c .before .before .before .before .before .before .before .before .request in
-    let o = order (a .n) (a .method) (a .rounds) (a .frame) (a .samples .now) (lengthsOf (lists (a .masks .now) (a .table .now) (a .positions .now) (a .book .now) (a .tris .now) (a .edges .now))) in
-    let e = reply-status (a .n) (a .method) (a .rounds) (a .frame) (a .samples .now) (o .lent) base (y .result) (y .ensures) in
+    let o = order (a .n) (a .method) (a .rounds) (a .threshold) (a .frame) (a .samples .now) (lengthsOf (lists (a .masks .now) (a .table .now) (a .positions .now) (a .book .now) (a .tris .now) (a .edges .now))) in
+    let e = reply-status (a .n) (a .method) (a .rounds) (a .frame) (a .samples .now) (o .lent) (a .threshold) (y .result) (y .ensures) in
     order-grantable o (sym e ∙ c .before .before .before .before .before .before .if1 .left) refl
 
 same-length : tie.Need-same-length
@@ -52,9 +51,9 @@ returns-2 : tie.Need-returns-2
 returns-2 c =
     let a = c .before .before .before .before .before .before .before .before .before .before .before .before .before .before .before .before .before .before .before .before .before .before .before .before .before .before .before .before .before .args in
     let y = c .before .before .before .before .before .before .before .before .before .before .before .before .before .before .before .before .before .before .before .before .before .request in
-    let o = order (a .n) (a .method) (a .rounds) (a .frame) (a .samples .now) (lengthsOf (lists (a .masks .now) (a .table .now) (a .positions .now) (a .book .now) (a .tris .now) (a .edges .now))) in
-    let e = reply-status (a .n) (a .method) (a .rounds) (a .frame) (a .samples .now) (o .lent) base (y .result) (y .ensures) in
-    done-build o (sym e ∙ c .before .before .before .before .before .before .before .before .before .before .before .before .before .before .before .before .before .before .before .if1 .left) (reply-crossed (a .n) (a .method) (a .rounds) (a .frame) (a .samples .now) (o .lent) base (y .result) (y .ensures) (c .before .before .before .before .before .before .before .before .before .before .before .before .before .before .before .before .before .before .before .if1 .left)) (c .before .before .before .before .before .before .before .before .before .before .before .before .grant .ensures)
+    let o = order (a .n) (a .method) (a .rounds) (a .threshold) (a .frame) (a .samples .now) (lengthsOf (lists (a .masks .now) (a .table .now) (a .positions .now) (a .book .now) (a .tris .now) (a .edges .now))) in
+    let e = reply-status (a .n) (a .method) (a .rounds) (a .frame) (a .samples .now) (o .lent) (a .threshold) (y .result) (y .ensures) in
+    done-build o (sym e ∙ c .before .before .before .before .before .before .before .before .before .before .before .before .before .before .before .before .before .before .before .if1 .left) (reply-crossed (a .n) (a .method) (a .rounds) (a .frame) (a .samples .now) (o .lent) (a .threshold) (y .result) (y .ensures) (c .before .before .before .before .before .before .before .before .before .before .before .before .before .before .before .before .before .before .before .if1 .left)) (c .before .before .before .before .before .before .before .before .before .before .before .before .grant .ensures)
 
 pub build-spec : {M : Type 1} → statement M
 build-spec =

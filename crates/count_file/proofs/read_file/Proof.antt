@@ -3,16 +3,15 @@ use native.Mathlib.Omega.{arith}
 use borrow.Author.Needs.{needs}
 use mathlib.Core.Path.{refl, sym, _∙_}
 use lib.ListN.{getD}
-use Rattle.lines.specs.Inner.Readers.{Have}
 use Rattle.lines.proofs.Parts.{first-fine}
 use Rattle.lines.proofs.Runs.{stopped-absent}
-use Rattle.count_file.specs.CountFile.{headParts, headRuns}
+use Rattle.count_file.specs.Inner.Heads.{FoundHead}
 use Rattle.count_file.proofs.Files.{count-le, first-small, second-small, no-head, bad-size, no-samples, more-follows, accept}
 use Rattle.count_file.proofs.read_file.Statement.{statement}
 use Rattle.count_file.proofs.read_file.Tie as tie
 
 -- the header that was read
-head-of : (k : tie.Then1) → Have headParts (k .before .before .before .args .s .now) 0 (headRuns (k .before .read-head .result .head)) (k .before .read-head .result .next)
+head-of : (k : tie.Then1) → FoundHead (k .before .before .before .args .s .now) (k .before .read-head .result .head) (k .before .read-head .result .next)
 head-of k = rw (k .if1 .taken) at (k .before .read-head .ensures)
 
 read-head-requires : tie.Need-read-head-requires
@@ -28,7 +27,7 @@ array-read-sites-of-3 : tie.Need-array-read-sites-of-3
 array-read-sites-of-3 c = search needs
 
 sites-of-requires : tie.Need-sites-of-requires
-sites-of-requires c κs = let f = first-fine (head-of (c .before .before) .fine) in (first-small f, second-small f)
+sites-of-requires c κs = let f = first-fine (head-of (c .before .before) .have .fine) in (first-small f, second-small f)
 
 refused-requires : tie.Need-refused-requires
 refused-requires c κs = search needs
@@ -47,7 +46,7 @@ read-samples-requires c κs =
     let a = c .before .before in
     let k = a .before .before .before in
     let v = k .before .read-head .result .head .sizes in
-    (head-of k .within, omega (arith, a .sites-of .ensures, count-le (getD v 0 0) (getD v 1 0) (getD v 2 0)))
+    (head-of k .have .within, omega (arith, a .sites-of .ensures, count-le (getD v 0 0) (getD v 1 0) (getD v 2 0)))
 
 enum-known-r : tie.Need-enum-known-r
 enum-known-r c = search needs

@@ -9,6 +9,9 @@ use Rattle.dump_main.proofs.dump.Tie as tie
 sides-of-requires : tie.Need-sides-of-requires
 sides-of-requires c κs = search needs
 
+inside-of-requires : tie.Need-inside-of-requires
+inside-of-requires c κs = search needs
+
 least-requires : tie.Need-least-requires
 least-requires c κs = search needs
 
@@ -23,7 +26,7 @@ array-read-cluster c = search needs
 
 show-sites-requires : tie.Need-show-sites-requires
 show-sites-requires c κs =
-    let n = c .before .before .before in
+    let n = c .before .before .before .before in
     rw (n .sides-of .ensures) (n .before .before .before .before .before .before .before .pre)
 
 slice-aggregate-show-changes : tie.Need-slice-aggregate-show-changes
@@ -31,7 +34,7 @@ slice-aggregate-show-changes c = sym (length-take-le _ _ (omega (arith, c .befor
 
 show-changes-requires : tie.Need-show-changes-requires
 show-changes-requires c κs =
-    let n = c .before .before .before .before .before in
+    let n = c .before .before .before .before .before .before in
     rw (n .sides-of .ensures) (n .before .before .before .before .before .before .before .pre)
 
 slice-aggregate-show-lists : tie.Need-slice-aggregate-show-lists
@@ -48,6 +51,7 @@ dump-spec =
     tie.close
     (tie.spec
     sides-of-requires
+    inside-of-requires
     least-requires
     mul-least
     least-requires-2

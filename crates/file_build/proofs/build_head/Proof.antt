@@ -10,6 +10,9 @@ head-frame-requires c κs = search needs
 sides-of-requires : tie.Need-sides-of-requires
 sides-of-requires c κs = search needs
 
+inside-of-requires : tie.Need-inside-of-requires
+inside-of-requires c κs = search needs
+
 array-read-method : tie.Need-array-read-method
 array-read-method c = search needs
 
@@ -41,10 +44,11 @@ returns : tie.Need-returns
 returns c =
     let b = c .before .before .before .before .before .before .before .before .before .before .before .before in
     let y = b .build .ensures in
-    let n = b .before .before .before .before .before .before .before .before in
+    let t = b .before .before .before .before .before .before .before .before in
+    let n = t .before in
     let f = n .before in
     let a = f .before .before .before .before .before .before .before .before .args in
-    head-built (a .head) (n .sides-of .ensures) (f .head-frame .ensures) y
+    head-built (a .head) (n .sides-of .ensures) (t .inside-of .ensures) (f .head-frame .ensures) y
 
 pub build-head-spec : {M : Type 1} → statement M
 build-head-spec =
@@ -52,6 +56,7 @@ build-head-spec =
     (tie.spec
     head-frame-requires
     sides-of-requires
+    inside-of-requires
     array-read-method
     array-read-rounds
     build-requires

@@ -10,7 +10,7 @@ use Rattle.lattice.specs.Sites.{SidesFit, sites, cells}
 use Rattle.points.specs.declared.Frame.{Frame}
 use Rattle.points.specs.Limits.{frameOk}
 use Rattle.refusals.specs.declared.Lengths.{Lengths}
-use Rattle.refusals.specs.Refusals.{most}
+use Rattle.refusals.specs.Refusals.{insideOk, most}
 
 pub record Granted (n : Sides) (method R : ℕ) (f : Frame) (S : List Float) (L : Lengths) (h : Float) : Type 0 where
   pub fit : SidesFit n
@@ -18,6 +18,7 @@ pub record Granted (n : Sides) (method R : ℕ) (f : Frame) (S : List Float) (L 
   pub rounds-low : R ≤ 4
   pub samples : length S ≡ sites n
   pub frame : frameOk f ≡ true
+  pub threshold : insideOk h ≡ true
   pub masks : sites n ≤ L .masks
   pub table : 7 * sites n ≤ L .table
   pub vertices : 3 * most n S h ≤ L .vertices
