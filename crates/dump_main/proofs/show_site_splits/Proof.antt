@@ -5,10 +5,10 @@ use Rattle.dump_main.proofs.show_site_splits.Statement.{statement}
 use Rattle.dump_main.proofs.show_site_splits.Tie as tie
 
 abbrev Inv-loop : tie.InvT-loop
-Inv-loop n samples table book s m cluster masks count w₀ i₀ w i = (i ≤ count) × (w .candidate ≤ w .vertex)
+Inv-loop n samples h table book s m cluster masks count w₀ i₀ w i = (i ≤ count) × (w .candidate ≤ w .vertex)
 
 abbrev μ-loop : tie.MeasureT-loop
-μ-loop n samples table book s m cluster masks count w₀ i₀ w i = count - i
+μ-loop n samples h table book s m cluster masks count w₀ i₀ w i = count - i
 
 ends-of-requires : tie.Need-ends-of-requires Inv-loop μ-loop
 ends-of-requires c κs = search needs

@@ -6,10 +6,10 @@ use Rattle.dump_main.proofs.show_splits.Statement.{statement}
 use Rattle.dump_main.proofs.show_splits.Tie as tie
 
 abbrev Inv-loop : tie.InvT-loop
-Inv-loop n samples masks table book cluster split w₀ s₀ s-end w s = (s ≤ length masks) × (w .candidate ≤ w .vertex)
+Inv-loop n samples h masks table book cluster split w₀ s₀ s-end w s = (s ≤ length masks) × (w .candidate ≤ w .vertex)
 
 abbrev μ-loop : tie.MeasureT-loop
-μ-loop n samples masks table book cluster split w₀ s₀ s-end w s = length masks - s
+μ-loop n samples h masks table book cluster split w₀ s₀ s-end w s = length masks - s
 
 slice-aggregate-write-all : tie.Need-slice-aggregate-write-all Inv-loop μ-loop
 slice-aggregate-write-all c = search needs

@@ -5,10 +5,10 @@ use Rattle.dump_main.proofs.show_tets.Statement.{statement}
 use Rattle.dump_main.proofs.show_tets.Tie as tie
 
 abbrev Inv-loop : tie.InvT-loop
-Inv-loop n samples k s₀ s = s ≤ k
+Inv-loop n samples h k s₀ s = s ≤ k
 
 abbrev μ-loop : tie.MeasureT-loop
-μ-loop n samples k s₀ s = k - s
+μ-loop n samples h k s₀ s = k - s
 
 site-count-requires : tie.Need-site-count-requires Inv-loop μ-loop
 site-count-requires c κs = search needs

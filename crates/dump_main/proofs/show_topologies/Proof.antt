@@ -6,10 +6,10 @@ use Rattle.dump_main.proofs.show_topologies.Statement.{statement}
 use Rattle.dump_main.proofs.show_topologies.Tie as tie
 
 abbrev Inv-loop : tie.InvT-loop
-Inv-loop n samples masks cluster s₀ s-end s = s ≤ length masks
+Inv-loop n samples h masks cluster s₀ s-end s = s ≤ length masks
 
 abbrev μ-loop : tie.MeasureT-loop
-μ-loop n samples masks cluster s₀ s-end s = length masks - s
+μ-loop n samples h masks cluster s₀ s-end s = length masks - s
 
 loop-holds : tie.Need-loop-holds Inv-loop μ-loop
 loop-holds c = search needs
