@@ -6,6 +6,7 @@ use Prim.Native.Nat.{ℕ}
 use lib.IntN.{ℤ, pos, negsuc}
 use lib.ListN.{replicate}
 use lib.Ieee.{Float, binary64, ofBits}
+use Rattle.samples.specs.Sides.{base}
 use Rattle.stages.proofs.Examples.{stagesKey, words, frame}
 use Rattle.build.specs.Answer.{Order, order, orderBox, orderVertices, orderPositions, orderTriangles}
 use Rattle.volume.specs.declared.Volume.{Volume}
@@ -24,7 +25,7 @@ abbrev samples : List Float
 samples = words (replicate 13 one ++ (0xC008000000000000 ∷ replicate 13 one))
 
 abbrev box : ℕ → Order
-box method = order (record { nu = 3; nv = 3; nw = 3 }) method 4 (frame 0 0 0 four four four) samples (record { masks = 27; table = 189; vertices = 42; book = 56; triangles = 288; edges = 864 })
+box method = order (record { nu = 3; nv = 3; nw = 3 }) method 4 base (frame 0 0 0 four four four) samples (record { masks = 27; table = 189; vertices = 42; book = 56; triangles = 288; edges = 864 })
 
 abbrev six : ℕ → ℤ → ℤ → ℤ → Volume
 six method x y z = volumeOf (orderPositions (box method)) (orderTriangles (box method)) (ofBits binary64 one) (record { x = x; y = y; z = z })

@@ -18,7 +18,7 @@ use Rattle.lattice.proofs.OtherEnds.{box-in}
 use Rattle.marks.specs.Marks.{sample, crossedCount}
 use Rattle.march.specs.Runs.{runs}
 use Rattle.points.specs.Limits.{originOk, stepOk, originsOk, stepsOk, frameOk}
-use Rattle.refusals.specs.Refusals.{settingsOk, siteRoom, vertexRoom, cellRoom, most, statusOf}
+use Rattle.refusals.specs.Refusals.{settingsOk, insideOk, siteRoom, vertexRoom, cellRoom, most, statusOf}
 use Rattle.topology.specs.Topology.{caseNumber}
 use Rattle.stages.specs.Samples.{AllFinite, isCase, caseCount}
 use Rattle.stages.proofs.Examples.{stagesKey, words, frame}
@@ -42,12 +42,12 @@ abbrev lent : Lists
 lent = lists (replicate 27 0) (replicate 189 0) (replicate 63 (ofBits binary64 0)) (replicate 84 0) (replicate 288 0) (replicate 864 0)
 
 abbrev asked : Order
-asked = order three 1 4 (frame 0 0 0 one one one) samples (lengthsOf lent)
+asked = order three 1 4 base (frame 0 0 0 one one one) samples (lengthsOf lent)
 
 -- ---- the premises
 
 pub box-left : Left asked lent (listsAfter asked lent) (answerOf asked)
-unfolding stagesKey le originOk stepOk originsOk stepsOk frameOk sideOk sidesOk cells settingsOk siteRoom vertexRoom cellRoom most statusOf
+unfolding stagesKey le originOk stepOk originsOk stepsOk frameOk sideOk sidesOk cells settingsOk insideOk siteRoom vertexRoom cellRoom most statusOf
 box-left = record { granted = refl; built = record { answer = refl; after = refl } }
 
 pub box-finite : AllFinite three samples
@@ -89,6 +89,6 @@ box-runs = left-runs asked lent (listsAfter asked lent) (answerOf asked) box-lef
 
 -- the counts that are printed: there is something to run
 pub box-counts : countsOf (answerOf asked) ≡ 14 ∷ 8 ∷ 12 ∷ 0 ∷ 0 ∷ 0 ∷ 0 ∷ 8 ∷ 0 ∷ 0 ∷ []
-unfolding stagesKey le originOk stepOk originsOk stepsOk frameOk sideOk sidesOk cells settingsOk siteRoom vertexRoom cellRoom most statusOf caseNumber isCase caseCount
+unfolding stagesKey le originOk stepOk originsOk stepsOk frameOk sideOk sidesOk cells settingsOk insideOk siteRoom vertexRoom cellRoom most statusOf caseNumber isCase caseCount
     orderBox orderVertices orderCases doneAnswer refusedAnswer answerOf countsOf
 box-counts = refl
