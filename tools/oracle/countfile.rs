@@ -1,7 +1,7 @@
 // The count file (docs/SCOPE.md, S10): read, refuse, answer, print; and the dump of FORMAT.md. All ours.
 
 use crate::isosurface::{build, Answer, Input};
-use crate::ply;
+use crate::{ply, threshold};
 use std::fmt::Write;
 
 /// The most sites a count file may have.
@@ -54,6 +54,7 @@ pub fn read(bytes: &[u8]) -> Option<Input> {
     let sides = [lines.decimal("nu")?, lines.decimal("nv")?, lines.decimal("nw")?];
     let method = lines.decimal("method")?;
     let rounds = lines.decimal("rounds")?;
+    let inside = if lines.rest.starts_with(b"inside=") { Some(lines.float("inside")?) } else { None };
     let mut origin = [0.0; 3];
     let mut step = [0.0; 3];
     for (axis, value) in origin.iter_mut().enumerate() {
@@ -73,10 +74,10 @@ pub fn read(bytes: &[u8]) -> Option<Input> {
     if !lines.rest.is_empty() {
         return None;
     }
-    Some(Input { sides: sides.map(|n| n as usize), method, rounds, origin, step, samples })
+    Some(Input { sides: sides.map(|n| n as usize), method, rounds, inside, origin, step, samples })
 }
 
-/// The status of a file that is of the form: 0, 1, 2 or 4. The form excludes 3, and our room excludes 5 to 7.
+/// The status of a file that is of the form: 0, 1, 2, 4 or 14. The form excludes 3, and our room excludes 5 to 7.
 pub fn status_of(input: &Input) -> u32 {
     if input.method > 1 || input.rounds > 4 {
         return 1;
@@ -88,6 +89,10 @@ pub fn status_of(input: &Input) -> u32 {
     let steps = input.step.iter().all(|&x| 0.001 <= x && x <= 1e6);
     if !(origins && steps) {
         return 4;
+    }
+    let h = input.threshold();
+    if !(0.0 <= h && h <= 1.0) {
+        return 14;
     }
     0
 }
@@ -140,8 +145,9 @@ pub fn check(input: &Input, rounds: usize, answer: &Answer) {
     }
 }
 
-/// Whether all border samples are on one side.
+/// Whether all border samples are on one side of the input's threshold.
 pub fn one_sided(input: &Input) -> bool {
+    threshold::set(input.threshold());
     let mut seen = [false; 2];
     for (site, &x) in input.samples.iter().enumerate() {
         if on_border(input.sides, site) {
@@ -244,6 +250,9 @@ pub fn file_text(input: &Input) -> String {
     let mut out = String::with_capacity(220 + 19 * input.samples.len());
     let [nu, nv, nw] = input.sides;
     let _ = write!(out, "nu={nu}\nnv={nv}\nnw={nw}\nmethod={}\nrounds={}\n", input.method, input.rounds);
+    if let Some(h) = input.inside {
+        let _ = writeln!(out, "inside={:016x}", h.to_bits());
+    }
     for (axis, x) in input.origin.iter().enumerate() {
         let _ = writeln!(out, "origin{axis}={:016x}", x.to_bits());
     }

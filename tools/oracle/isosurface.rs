@@ -5,6 +5,7 @@
 // Rust's own text comes in by the `include!` at the end. Main.rs lists what is ours.
 
 use crate::constants::{self, EDGE_DELTAS, MT_TABLE, OWNED_TET_EDGES, REVERSE_EDGE, TET_EDGE_PAIRS};
+use crate::threshold;
 use crate::topology::{self, TopologyCase};
 use rayon::prelude::*;
 use std::collections::{HashMap, HashSet};
@@ -270,9 +271,18 @@ pub struct Input {
     pub sides: [usize; 3],
     pub method: u32,
     pub rounds: u32,
+    /// The threshold, where one is given.
+    pub inside: Option<f64>,
     pub origin: [f64; 3],
     pub step: [f64; 3],
     pub samples: Vec<f64>,
+}
+
+impl Input {
+    /// The threshold that is given, or the Rust's.
+    pub fn threshold(&self) -> f64 {
+        self.inside.unwrap_or(threshold::BASE)
+    }
 }
 
 /// Everything that a build answers.
@@ -317,8 +327,9 @@ pub fn topology_of(mask: u16, cluster: bool, ijk: [i64; 3], values: &HashMap<[i6
     (case_number(&result.case), clusters)
 }
 
-/// A build that is not refused. `rounds` is R; it need not be at most 4 here.
+/// A build that is not refused. `rounds` is R; it need not be at most 4 here. The threshold is the input's from here on.
 pub fn build(input: &Input, rounds: usize, with_topology: bool) -> Answer {
+    threshold::set(input.threshold());
     let lattice = SampleLattice { origin: input.origin, step: input.step, sides: input.sides };
     let keys = lattice.keys();
     let evaluated: HashMap<[i64; 3], f64> = keys.iter().copied().zip(input.samples.iter().copied()).collect();
@@ -364,7 +375,7 @@ pub fn owner_of(u: [i64; 3], v: [i64; 3]) -> Option<([i64; 3], [i64; 3], usize)>
     get_edge_owner(u, v)
 }
 
-/// The Rust's inside test of isosurface.rs.
+/// The Rust's inside test of isosurface.rs, with the threshold of now.
 pub fn inside(value: f64) -> bool {
     is_inside(value)
 }

@@ -1,7 +1,8 @@
 // The oracle: the shown Rust, run with the stand-ins of docs/SCOPE.md, S16.4, to be held beside our own programs.
 //
 // THE RUST'S, compiled from its own files at build time (tools/oracle/build):
-//   topology.rs, constants.rs     whole and unchanged; topology.rs once more with its walk counted (`visits`)
+//   constants.rs                  whole and unchanged
+//   topology.rs                   whole, but for the constant of its is_inside; once more with its walk counted (`visits`)
 //   of isosurface.rs              ClusterMethod, SamplePoint, VertexCandidate, get_edge_points, get_edge_owner,
 //                                 edge_ref_get, edge_ref_set, push_vertex, average_point, interpolate_points,
 //                                 edge_delta, add_ijk, tetrahedron_cases, march_tets, build_facets, is_inside,
@@ -15,7 +16,8 @@
 //     (SampleLattice), the fraction of the flat-hole test as a/(a-b), free (lerp_alpha; that of a mark is the marking loop's own), that of a
 //     point as the same, held between 0 and 1 (point_alpha), edge_intersection_point, rollback_cluster_owners and its order,
 //     and E as the number of times the marking loop marks.
-//   Changes made to the taken text: an end outside the box is passed over in the marking loop; `0..4` is `0..rounds`;
+//   Changes made to the taken text: the constant 1.0e-9 in each of the two is_inside (isosurface.rs, topology.rs) is the threshold
+//     of the file (threshold.rs); an end outside the box is passed over in the marking loop; `0..4` is `0..rounds`;
 //     lines that only note what is there (crossed += 1, seen.split, seen.owners, seen.made).
 //   Shims: rayon's par_iter and par_chunks in order; curvature weights never called; progress and messages dropped.
 //   The vertex book: read off the Rust's edge table after each pass, and off the masks.
@@ -24,7 +26,7 @@
 //   The count file, its refusals, what is printed, the checks of each answer (countfile.rs), the PLY file (ply.rs),
 //     the volume (volume.rs), the generator (generate.rs), the search (search.rs), and the commands below.
 //
-// The threshold 1.0e-9 stands in the Rust's text only (is_inside, twice) and in the values that generate.rs picks.
+// The threshold is 1.0e-9 (threshold.rs: BASE) where a file or a command does not give one.
 
 #![allow(dead_code)]
 
@@ -33,6 +35,7 @@ mod generate;
 mod isosurface;
 mod ply;
 mod search;
+mod threshold;
 mod visits;
 mod volume;
 
@@ -45,24 +48,28 @@ use std::io::{Read, Write};
 const USAGE: &str = "usage: oracle [--dump | --ply] [--unbounded] [FILE]
        oracle --volume DIGITS X Y Z [FILE]
        oracle --batch [--dump | --ply | --volume DIGITS X Y Z]
-       oracle --batch --dump --free
+       oracle --batch --dump --free | --shown
        oracle --generate SEED FROM COUNT [FOLDER]
        oracle --near SEED FROM COUNT
+       oracle --thresholds SEED FROM COUNT [FOLDER]
        oracle --coverage SEED COUNT [FOLDER]
+       oracle --coverage --thresholds SEED COUNT [FOLDER]
        oracle --rules SEED COUNT [FOLDER]
        oracle --rules --near SEED COUNT
+       oracle --rules --thresholds SEED COUNT [FOLDER]
        oracle --search SEED SECONDS FOLDER [NAME]
-       oracle --topology MASK CLUSTER V0 .. V13
-       oracle --topology-all SEED
+       oracle --topology MASK CLUSTER V0 .. V13 [INSIDE]
+       oracle --topology-all SEED [INSIDE]
        oracle --visits-all
        oracle --owner I J K I J K
-       oracle --tet T A B C D
-       oracle --inside V
+       oracle --tet T A B C D [INSIDE]
+       oracle --inside V [INSIDE]
        oracle --alpha A B
        oracle --point-alpha A B
        oracle --mean X Y Z [X Y Z ..]
        oracle --tables
-a value is 16 lower-case hex digits, or - for a missing one; DIGITS is 0 to 6, and X Y Z are whole numbers of i64";
+a value is 16 lower-case hex digits, or - for a missing one; so is the threshold INSIDE, 1.0e-9 where it is left out;
+DIGITS is 0 to 6, and X Y Z are whole numbers of i64";
 
 fn stop(why: &str) -> ! {
     eprintln!("oracle: {why}");
@@ -82,6 +89,13 @@ fn value(text: &str) -> Option<f64> {
 
 fn given(text: &str) -> f64 {
     value(text).unwrap_or_else(|| stop("a value is missing"))
+}
+
+/// The threshold from here on: the one that is given, if one is.
+fn threshold_of(given_last: &[&str]) {
+    if let Some(text) = given_last.first() {
+        threshold::set(given(text));
+    }
 }
 
 fn asked(words: [&str; 4]) -> volume::Asked {
@@ -123,6 +137,14 @@ fn take_file<'a>(rest: &mut &'a [u8]) -> &'a [u8] {
 fn put_file(out: &mut impl Write, bytes: &[u8]) {
     let _ = writeln!(out, "file {}", bytes.len());
     let _ = out.write_all(bytes);
+}
+
+/// Files number `from` to `from + count - 1` as a batch.
+fn put_files(from: u64, count: u64, file: impl Fn(u64) -> Vec<u8>) {
+    let mut out = std::io::BufWriter::new(std::io::stdout().lock());
+    for index in from..from + count {
+        put_file(&mut out, &file(index));
+    }
 }
 
 /// Answers to many files: a batch in, for each file the answer and a line `end` out.
@@ -198,7 +220,7 @@ fn topology_all(seed: u64) {
     let mut out = std::io::BufWriter::new(std::io::stdout().lock());
     let mut state = seed;
     for mask in 0..16384u16 {
-        let values: Vec<Option<f64>> = (0..14).map(|_| generate::end_value(&mut state)).collect();
+        let values: Vec<Option<f64>> = (0..14).map(|_| generate::end_value(&mut state, -threshold::now())).collect();
         let _ = writeln!(out, "{mask:04x} {}", topology_line(mask, true, &values));
     }
 }
@@ -236,8 +258,8 @@ fn main() {
     match words.as_slice() {
         ["--batch"] => batch(|file| countfile::answer_text(file, false, false)),
         ["--batch", "--dump"] | ["--dump", "--batch"] => batch(|file| countfile::answer_text(file, true, false)),
-        ["--batch", "--dump", "--free"] => {
-            isosurface::follow(isosurface::Rule::Free);
+        ["--batch", "--dump", rule @ ("--free" | "--shown")] => {
+            isosurface::follow(if *rule == "--free" { isosurface::Rule::Free } else { isosurface::Rule::Shown });
             batch(|file| countfile::answer_text(file, true, false))
         }
         ["--batch", "--ply"] | ["--ply", "--batch"] => batch_ply(),
@@ -251,35 +273,43 @@ fn main() {
         }
         ["--generate", seed, from, count, folder @ ..] if folder.len() < 2 => {
             let kept = generate::kept(folder.first().copied());
-            let mut out = std::io::BufWriter::new(std::io::stdout().lock());
-            let from: u64 = number(from);
-            for index in from..from + number::<u64>(count) {
-                put_file(&mut out, &generate::file(number(seed), index, &kept));
-            }
+            put_files(number(from), number(count), |index| generate::file(number(seed), index, &kept))
         }
-        ["--near", seed, from, count] => {
-            let mut out = std::io::BufWriter::new(std::io::stdout().lock());
-            let from: u64 = number(from);
-            for index in from..from + number::<u64>(count) {
-                put_file(&mut out, &generate::near_file(number(seed), index));
-            }
+        ["--near", seed, from, count] => put_files(number(from), number(count), |index| generate::near_file(number(seed), index)),
+        ["--thresholds", seed, from, count, folder @ ..] if folder.len() < 2 => {
+            let kept = generate::kept(folder.first().copied());
+            put_files(number(from), number(count), |index| generate::threshold_file(number(seed), index, &kept))
         }
         ["--rules", "--near", seed, count] => rules(number(count), |index| generate::near_file(number(seed), index)),
+        ["--rules", "--thresholds", seed, count, folder @ ..] if folder.len() < 2 => {
+            let kept = generate::kept(folder.first().copied());
+            rules(number(count), |index| generate::threshold_file(number(seed), index, &kept))
+        }
         ["--rules", seed, count, folder @ ..] if folder.len() < 2 => {
             let kept = generate::kept(folder.first().copied());
             rules(number(count), |index| generate::file(number(seed), index, &kept))
         }
+        ["--coverage", "--thresholds", seed, count, folder @ ..] if folder.len() < 2 => {
+            let kept = generate::kept(folder.first().copied());
+            generate::coverage(number(count), |index| generate::threshold_file(number(seed), index, &kept))
+        }
         ["--coverage", seed, count, folder @ ..] if folder.len() < 2 => {
-            generate::coverage(number(seed), number(count), &generate::kept(folder.first().copied()))
+            let kept = generate::kept(folder.first().copied());
+            generate::coverage(number(count), |index| generate::file(number(seed), index, &kept))
         }
         ["--search", seed, seconds, folder] => search::search(number(seed), number(seconds), folder, ""),
         ["--search", seed, seconds, folder, named] => search::search(number(seed), number(seconds), folder, named),
-        ["--topology", mask, cluster, values @ ..] if values.len() == 14 => {
+        ["--topology", mask, cluster, values @ ..] if (14..=15).contains(&values.len()) => {
+            let (values, inside) = values.split_at(14);
+            threshold_of(inside);
             let mask = u16::from_str_radix(mask, 16).unwrap_or_else(|_| stop("not a mask"));
             let values: Vec<Option<f64>> = values.iter().map(|v| value(v)).collect();
             println!("{}", topology_line(mask, *cluster == "1", &values));
         }
-        ["--topology-all", seed] => topology_all(number(seed)),
+        ["--topology-all", seed, inside @ ..] if inside.len() < 2 => {
+            threshold_of(inside);
+            topology_all(number(seed))
+        }
         ["--visits-all"] => visits_all(),
         ["--owner", a, b, c, d, e, f] => {
             let [a, b, c, d, e, f] = [a, b, c, d, e, f].map(|x| number::<i64>(x));
@@ -288,11 +318,15 @@ fn main() {
                 None => println!("none"),
             }
         }
-        ["--tet", tet, a, b, c, d] => {
+        ["--tet", tet, a, b, c, d, inside @ ..] if inside.len() < 2 => {
+            threshold_of(inside);
             let (case, triangles) = isosurface::one_tetrahedron(number(tet), [a, b, c, d].map(|x| value(x)));
             println!("{case} {triangles}");
         }
-        ["--inside", v] => println!("{}", u8::from(isosurface::inside(given(v)))),
+        ["--inside", v, inside @ ..] if inside.len() < 2 => {
+            threshold_of(inside);
+            println!("{}", u8::from(isosurface::inside(given(v))))
+        }
         ["--alpha", a, b] => println!("{}", countfile::float_text(isosurface::lerp_alpha(given(a), given(b)))),
         ["--point-alpha", a, b] => println!("{}", countfile::float_text(isosurface::point_alpha(given(a), given(b)))),
         ["--mean", values @ ..] if !values.is_empty() && values.len() % 3 == 0 => {

@@ -144,7 +144,7 @@ fn draw(rng: &mut Rng, wild: bool) -> f64 {
 }
 
 fn plain(sides: [usize; 3], samples: Vec<f64>) -> Input {
-    Input { sides, method: 1, rounds: 4, origin: [0.0; 3], step: [1.0; 3], samples }
+    Input { sides, method: 1, rounds: 4, inside: None, origin: [0.0; 3], step: [1.0; 3], samples }
 }
 
 /// A box to climb from: noise, or a kept box with noise around it.
