@@ -90,7 +90,14 @@ fn read_head(s: &[u8]) -> Found
     };
     let threshold = read_inside(s, mid);
     let mut origin = [0u64; 3];
-    let b = lines::read_run(s, threshold.next, 0, b"origin0=origin1=origin2=", 3, &mut origin);
+    let b = lines::read_run(
+        s,
+        threshold.next,
+        0,
+        b"origin0=origin1=origin2=",
+        3,
+        &mut origin,
+    );
     let Place::At(end) = b else {
         return not_found();
     };

@@ -350,7 +350,16 @@ fn show_changes(
 {
     let k = least(samples.len(), masks.len());
     let b = least(4 * least(a.vertices, 2268), book.len());
-    show_splits(n, samples, h, &masks[..k], table, &book[..b], cluster, a.split);
+    show_splits(
+        n,
+        samples,
+        h,
+        &masks[..k],
+        table,
+        &book[..b],
+        cluster,
+        a.split,
+    );
     show_rounds(&book[..b], a.rounds);
 }
 
