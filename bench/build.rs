@@ -1,12 +1,18 @@
 // Benchmark of the build: marking, topology, march, the whole, and the phases of ours, beside the Rust pipeline of the oracle, on the same samples, in one run.
 //
 // The Rust is the oracle's (tools/oracle), single thread, without the oracle's notes and checks. Its sample map, its map of marks (all 0) and its list
-// of keys are made outside the clock, as our six lists are; what it makes while it runs is inside. Ours is the linked archive.
+// of keys are made outside the clock, as our six lists are; what it makes while it runs is inside. Ours is the linked archive. The phases know no threshold but
+// 1.0e-9, which the build is given.
 // Every answer is compared before a line is printed; a difference ends the program with an error.
 // A time is the least of its rounds, in microseconds; the two sides take turns.
 
 #![allow(dead_code)]
 
+#[path = "../tools/oracle/threshold.rs"]
+mod threshold;
+
+// Without its notes the Rust has no use for the place where it would take them.
+#[allow(unused_variables)]
 mod isosurface {
     include!("../tools/oracle/isosurface.rs");
     include!("oracle.rs");
@@ -19,14 +25,19 @@ use std::collections::HashMap;
 use std::hint::black_box;
 use std::time::Instant;
 
+/// The threshold of include/spoonthicket.h.
+const INSIDE: f64 = 1.0e-9;
+
 extern "C" {
     fn spoonthicket_build(
-        nu: usize, nv: usize, nw: usize, method: usize, rounds: usize, frame: *const [f64; 6],
+        nu: usize, nv: usize, nw: usize, method: usize, rounds: usize, inside: f64, frame: *const [f64; 6],
         samples: *const f64, samples_len: usize, masks: *mut u16, masks_len: usize, table: *mut u32, table_len: usize,
         vertices: *mut f64, vertices_len: usize, book: *mut u32, book_len: usize, triangles: *mut u32, triangles_len: usize,
         edges: *mut u32, edges_len: usize, counts: *mut [usize; 10],
     ) -> usize;
-    fn spoonthicket_topology(mask: u16, method: usize, ends: *const [f64; 14], clusters: *mut [u16; 14], visits: *mut [usize; 1]) -> usize;
+    fn spoonthicket_topology(
+        mask: u16, method: usize, inside: f64, ends: *const [f64; 14], clusters: *mut [u16; 14], visits: *mut [usize; 1],
+    ) -> usize;
     fn phase_count(nu: usize, nv: usize, nw: usize, samples: *const f64, samples_len: usize) -> usize;
     fn phase_mark(nu: usize, nv: usize, nw: usize, samples: *const f64, samples_len: usize, masks: *mut u16, masks_len: usize);
     fn phase_draw(
@@ -75,7 +86,7 @@ impl Lists {
     fn build(&mut self, n: usize, s: &[f64]) {
         let status = unsafe {
             spoonthicket_build(
-                n, n, n, 1, 4, &[0.0, 0.0, 0.0, 1.0, 1.0, 1.0], s.as_ptr(), s.len(), self.masks.as_mut_ptr(), self.masks.len(),
+                n, n, n, 1, 4, INSIDE, &[0.0, 0.0, 0.0, 1.0, 1.0, 1.0], s.as_ptr(), s.len(), self.masks.as_mut_ptr(), self.masks.len(),
                 self.table.as_mut_ptr(), self.table.len(), self.vertices.as_mut_ptr(), self.vertices.len(), self.book.as_mut_ptr(),
                 self.book.len(), self.tris.as_mut_ptr(), self.tris.len(), self.edges.as_mut_ptr(), self.edges.len(), &mut self.counts,
             )
@@ -132,7 +143,7 @@ fn topology(rounds: usize) -> (f64, f64) {
         let (t, total) = micros(|| {
             let mut total = 0;
             for mask in 0..16384u16 {
-                total += unsafe { spoonthicket_topology(black_box(mask), 1, &ends, &mut clusters, &mut visits) };
+                total += unsafe { spoonthicket_topology(black_box(mask), 1, INSIDE, &ends, &mut clusters, &mut visits) };
                 black_box((&clusters, &visits));
             }
             total
@@ -152,7 +163,7 @@ fn topology(rounds: usize) -> (f64, f64) {
     }
     for mask in 0..16384u16 {
         let (mut clusters, mut visits) = ([0u16; 14], [0]);
-        let case = unsafe { spoonthicket_topology(mask, 1, &ends, &mut clusters, &mut visits) };
+        let case = unsafe { spoonthicket_topology(mask, 1, INSIDE, &ends, &mut clusters, &mut visits) };
         let (theirs, masks) = isosurface::topology_of(mask, true, [0; 3], &map);
         assert!(case == theirs && clusters.iter().copied().take_while(|m| *m != 0).eq(masks), "topology of {mask:04x} differs");
     }
@@ -177,7 +188,7 @@ fn main() {
         let mut rows = vec![Vec::new(); 3];
         for n in sizes {
             let s = make(n);
-            let input = isosurface::Input { sides: [n; 3], method: 1, rounds: 4, origin: [0.0; 3], step: [1.0; 3], samples: s.clone() };
+            let input = isosurface::Input { sides: [n; 3], method: 1, rounds: 4, inside: None, origin: [0.0; 3], step: [1.0; 3], samples: s.clone() };
             let mut times: Vec<[Vec<f64>; 2]> = vec![[Vec::new(), Vec::new()]; 3];
             let mut phases: Vec<Vec<f64>> = vec![Vec::new(); 8];
             let ready = timed::prepare(&input);
@@ -225,7 +236,7 @@ fn main() {
                 let (t, _) = micros(|| l.clear());
                 phases[5].push(t);
                 // the floors: a pass over the samples, and zeros over the edge list by the C library
-                let (t, _) = micros(|| black_box(&s).iter().filter(|x| **x < -1.0e-9).count());
+                let (t, _) = micros(|| black_box(&s).iter().filter(|x| **x < -INSIDE).count());
                 phases[6].push(t);
                 let (t, _) = micros(|| black_box(&mut l.edges).fill(0));
                 phases[7].push(t);

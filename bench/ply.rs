@@ -11,9 +11,12 @@ use std::time::Instant;
 
 const ROUNDS: usize = 40;
 
+/// The threshold of include/spoonthicket.h.
+const INSIDE: f64 = 1.0e-9;
+
 extern "C" {
     fn spoonthicket_build(
-        nu: usize, nv: usize, nw: usize, method: usize, rounds: usize, frame: *const [f64; 6],
+        nu: usize, nv: usize, nw: usize, method: usize, rounds: usize, inside: f64, frame: *const [f64; 6],
         samples: *const f64, samples_len: usize, masks: *mut u16, masks_len: usize, table: *mut u32, table_len: usize,
         vertices: *mut f64, vertices_len: usize, book: *mut u32, book_len: usize, triangles: *mut u32, triangles_len: usize,
         edges: *mut u32, edges_len: usize, counts: *mut [usize; 10],
@@ -60,9 +63,9 @@ fn built(n: usize) -> Mesh {
     let mut counts = [0; 10];
     let status = unsafe {
         spoonthicket_build(
-            n, n, n, 1, 4, &[0.0, 0.0, 0.0, 1.0, 1.0, 1.0], samples.as_ptr(), samples.len(), masks.as_mut_ptr(), masks.len(), table.as_mut_ptr(), table.len(),
-            positions.as_mut_ptr(), positions.len(), book.as_mut_ptr(), book.len(), triangles.as_mut_ptr(), triangles.len(), edges.as_mut_ptr(), edges.len(),
-            &mut counts,
+            n, n, n, 1, 4, INSIDE, &[0.0, 0.0, 0.0, 1.0, 1.0, 1.0], samples.as_ptr(), samples.len(), masks.as_mut_ptr(), masks.len(), table.as_mut_ptr(),
+            table.len(), positions.as_mut_ptr(), positions.len(), book.as_mut_ptr(), book.len(), triangles.as_mut_ptr(), triangles.len(), edges.as_mut_ptr(),
+            edges.len(), &mut counts,
         )
     };
     assert_eq!(status, 0);

@@ -16,16 +16,19 @@
 extern "C" {
 #endif
 
-/* What spoonthicket_build answers. The lowest number that applies is given. */
+/* What spoonthicket_build answers. The tests are made in the order 1, 2, 3, 4, 14, 5, 6, 7, as they stand here, and the first that fails
+ * gives the number.
+ */
 enum {
     SPOONTHICKET_DONE = 0,
-    SPOONTHICKET_SETTINGS = 1, /* method not 0 or 1, or rounds over 4 */
-    SPOONTHICKET_SIDES = 2,    /* a side not 1 to 32 */
-    SPOONTHICKET_SAMPLES = 3,  /* samples not nu * nv * nw long */
-    SPOONTHICKET_FRAME = 4,    /* an origin not within -1e9 to 1e9, a step not within 0.001 to 1e6, or a NaN */
-    SPOONTHICKET_SITES = 5,    /* masks shorter than the sites, or table shorter than 7 a site */
-    SPOONTHICKET_VERTICES = 6, /* vertices shorter than 3 X, or book shorter than 4 X */
-    SPOONTHICKET_CELLS = 7     /* triangles shorter than 36 a cell, or edges shorter than 108 a cell */
+    SPOONTHICKET_SETTINGS = 1,   /* method not 0 or 1, or rounds over 4 */
+    SPOONTHICKET_SIDES = 2,      /* a side not 1 to 32 */
+    SPOONTHICKET_SAMPLES = 3,    /* samples not nu * nv * nw long */
+    SPOONTHICKET_FRAME = 4,      /* an origin not within -1e9 to 1e9, a step not within 0.001 to 1e6, or a NaN */
+    SPOONTHICKET_THRESHOLD = 14, /* inside below 0, above 1, or a NaN */
+    SPOONTHICKET_SITES = 5,      /* masks shorter than the sites, or table shorter than 7 a site */
+    SPOONTHICKET_VERTICES = 6,   /* vertices shorter than 3 X, or book shorter than 4 X */
+    SPOONTHICKET_CELLS = 7       /* triangles shorter than 36 a cell, or edges shorter than 108 a cell */
 };
 
 /* The places of the ten counts. */
@@ -46,9 +49,15 @@ enum {
 /* An entry of the edge table without a vertex. */
 #define SPOONTHICKET_NONE UINT32_C(0xFFFFFFFF)
 
+/* The threshold that was fixed before it could be given, and that a count file without a line `inside=` means. */
+#define SPOONTHICKET_INSIDE 1.0e-9
+
 /* The build of one box of nu * nv * nw samples (isovalue taken off, site u + nu * (v + nv * w)).
  *
  * method: 0 a vertex for each crossed edge whose two samples are finite, 1 averages by cluster. rounds: 0 to 4.
+ * inside: the threshold, 0 to 1, both taken, and -0.0 as 0. A sample is inside where it is below -inside, and outside otherwise, a NaN too;
+ *   so -inside is outside, and 0.0 and -0.0 are for every threshold that is taken. All that asks for a side asks by it: marks, flat holes,
+ *   tetrahedra and counts. It moves the side and not the point: a point stands where the values would cross 0, held to its edge.
  * frame: origin on three axes, then step on three axes.
  *
  * Done (0), the front of each list holds:
@@ -59,12 +68,12 @@ enum {
  *   book       four words for each: site, edges held now (0 once retired), edges held when made, round made
  *   triangles  three vertex numbers for each triangle
  *   edges      zeros (108 a cell: room to work in)
- * and what lies behind stays as it was. Refused (1 to 7), no entry of these six lists changes.
+ * and what lies behind stays as it was. Refused (1 to 7 and 14), no entry of these six lists changes.
  * counts always gets its ten numbers: zeros on a refusal.
  */
 size_t spoonthicket_build(
     size_t nu, size_t nv, size_t nw, size_t method, size_t rounds,
-    const double frame[6],
+    double inside, const double frame[6],
     const double *samples, size_t samples_len,
     uint16_t *masks, size_t masks_len,
     uint32_t *table, size_t table_len,
@@ -74,14 +83,17 @@ size_t spoonthicket_build(
     uint32_t *edges, size_t edges_len,
     size_t counts[SPOONTHICKET_COUNTS]);
 
-/* The topology test of one mask of near intersections (bits 14 and 15 are passed over), with the values at the fourteen ends of the
- * site's edges; a value that is not finite counts as missing. Answers the case: 0 closed, 1 multihole, 2 flathole, 3 multisurface,
+/* The topology test of one mask of near intersections (bits 14 and 15 are passed over), with the threshold and the values at the fourteen
+ * ends of the site's edges; a value that is not finite counts as missing. Every threshold is taken, also one that a build refuses: a value
+ * is inside where it is below -inside, so none is for a NaN. Answers the case: 0 closed, 1 multihole, 2 flathole, 3 multisurface,
  * 4 simple, 5 not clustered: a method other than 1, and a mask with one of the fourteen bits; without any it is 4 for every method.
  * clusters gets a mask for each cluster, in order, and zeros behind them. visits gets how many edges the walks of the test took from
  * their frontiers, together: never more than 14; 0 where no walk was made (none of the fourteen bits, all of them, or a method other
  * than 1), the number of ones among the fourteen bits for case 3, and 14 for the others.
  */
-size_t spoonthicket_topology(uint16_t mask, size_t method, const double ends[14], uint16_t clusters[14], size_t visits[1]);
+size_t spoonthicket_topology(
+    uint16_t mask, size_t method, double inside, const double ends[14],
+    uint16_t clusters[14], size_t visits[1]);
 
 /* How many edges the component walks over a mask take: the ones among its fourteen low bits. */
 size_t spoonthicket_visits(uint16_t mask);

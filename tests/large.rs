@@ -9,9 +9,14 @@
 // lists: exactly as long as is asked for, or longer by a drawn length, every entry drawn, among the vertices' many NaNs of any sign and payload. The coordinates
 // are words here, lent to the library as doubles, so that nothing but bits is ever compared.
 //
+// Every second box has the threshold 1.0e-9. The others have one of those in `THRESHOLDS`, and most of them other samples: moved to the threshold, made for it, or
+// some of them at it, next to it, and between it and 0. All of this is drawn by a generator of its own, so that a box with the threshold 1.0e-9 is what it would be
+// without thresholds.
+//
 // One box in ten is given something to refuse: settings, sides, a sample list of another length, a frame just out of its range or NaN, lists that are one entry
-// short or more, and sometimes two of these at once. The status then has to be the lowest number of docs/SCOPE.md, S9.2 that applies (`status_of` below, written
-// from the table), all counts 0, and every entry of every list what it was.
+// short or more, and sometimes two of these at once; every second of these, and a few boxes beside, a threshold that is refused. The status then has to be the
+// number of the first test of docs/SCOPE.md, S9.2 that fails, in the order 1, 2, 3, 4, 14, 5, 6, 7 (`status_of` below, written from the table), all counts 0, and
+// every entry of every list what it was.
 //
 // Otherwise the status has to be 0, and the ten counts and every entry of the six lists what the oracle says: masks, edge table (0xFFFFFFFF where there is no
 // vertex), positions by their bits, book, triangles, zeros over the edge list; behind the used part what was lent. Clusters split and sites rolled back are
@@ -31,6 +36,8 @@ mod generate;
 mod isosurface;
 #[path = "../tools/oracle/ply.rs"]
 mod ply;
+#[path = "../tools/oracle/threshold.rs"]
+mod threshold;
 
 include!(concat!(env!("ORACLE_MADE"), "/modules.rs"));
 
@@ -41,7 +48,7 @@ use std::time::Instant;
 
 extern "C" {
     fn spoonthicket_build(
-        nu: usize, nv: usize, nw: usize, method: usize, rounds: usize, frame: *const [f64; 6],
+        nu: usize, nv: usize, nw: usize, method: usize, rounds: usize, inside: f64, frame: *const [f64; 6],
         samples: *const f64, samples_len: usize, masks: *mut u16, masks_len: usize, table: *mut u32, table_len: usize,
         vertices: *mut f64, vertices_len: usize, book: *mut u32, book_len: usize, triangles: *mut u32, triangles_len: usize,
         edges: *mut u32, edges_len: usize, counts: *mut [usize; 10],
@@ -50,6 +57,9 @@ extern "C" {
 
 /// An entry of the edge table without a vertex.
 const NONE: u32 = 0xFFFF_FFFF;
+
+/// The thresholds of the boxes; every second box has the first, which is that of files that give none.
+const THRESHOLDS: [f64; 8] = [threshold::BASE, 0.0, -0.0, 5e-324, 1e-300, 1e-12, 0.25, 1.0];
 
 /// The files whose samples are put into larger boxes.
 const KEPT: &str = "tools/oracle/rare";
@@ -62,6 +72,8 @@ struct Asked {
     sides: [usize; 3],
     method: usize,
     rounds: usize,
+    /// The threshold.
+    inside: f64,
     origin: [f64; 3],
     step: [f64; 3],
     /// The samples' bits.
@@ -139,17 +151,20 @@ struct Wanted {
 
 // ---- the table of refusals
 
-/// The crossed edges (docs/SCOPE.md, S3.3), counted over the box: seven owned edges a site.
-fn crossed(sides: [usize; 3], samples: &[u64]) -> usize {
+/// The crossed edges (docs/SCOPE.md, S3.3) for which this holds of their two samples, counted over the box: seven owned edges a site.
+fn crossed_where(sides: [usize; 3], h: f64, samples: &[u64], holds: impl Fn(f64, f64) -> bool) -> usize {
     let [nu, nv, nw] = sides;
-    let inside: Vec<bool> = samples.iter().map(|&x| f64::from_bits(x) < -1.0e-9).collect();
+    let samples: Vec<f64> = samples.iter().map(|&x| f64::from_bits(x)).collect();
     let mut n = 0;
     for w in 0..nw {
         for v in 0..nv {
             for u in 0..nu {
                 for c in 1..8 {
                     let (x, y, z) = (u + c % 2, v + c / 2 % 2, w + c / 4);
-                    n += usize::from(x < nu && y < nv && z < nw && inside[u + nu * (v + nv * w)] != inside[x + nu * (y + nv * z)]);
+                    if x < nu && y < nv && z < nw {
+                        let (a, b) = (samples[u + nu * (v + nv * w)], samples[x + nu * (y + nv * z)]);
+                        n += usize::from((a < -h) != (b < -h) && holds(a, b));
+                    }
                 }
             }
         }
@@ -157,15 +172,19 @@ fn crossed(sides: [usize; 3], samples: &[u64]) -> usize {
     n
 }
 
-/// How long each list has to be, for sides that are accepted and samples that fit them.
-fn lengths_asked(sides: [usize; 3], samples: &[u64]) -> [usize; 6] {
+fn crossed(sides: [usize; 3], h: f64, samples: &[u64]) -> usize {
+    crossed_where(sides, h, samples, |_, _| true)
+}
+
+/// How long each list has to be, for sides and a threshold that are accepted and samples that fit the sides.
+fn lengths_asked(sides: [usize; 3], h: f64, samples: &[u64]) -> [usize; 6] {
     let sites: usize = sides.iter().product();
     let cells: usize = sides.iter().map(|n| n - 1).product();
-    let most = 3 * crossed(sides, samples) / 2;
+    let most = 3 * crossed(sides, h, samples) / 2;
     [sites, 7 * sites, 3 * most, 4 * most, 36 * cells, 108 * cells]
 }
 
-/// The status by the table of docs/SCOPE.md, S9.2.
+/// The status by the table of docs/SCOPE.md, S9.2, its tests in their order.
 fn status_of(a: &Asked, lengths: [usize; 6]) -> usize {
     if !(a.method == 0 || a.method == 1) || a.rounds > 4 {
         return 1;
@@ -181,7 +200,10 @@ fn status_of(a: &Asked, lengths: [usize; 6]) -> usize {
     if !origins || !steps {
         return 4;
     }
-    let asked = lengths_asked(a.sides, &a.samples);
+    if a.inside.is_nan() || a.inside < 0.0 || a.inside > 1.0 {
+        return 14;
+    }
+    let asked = lengths_asked(a.sides, a.inside, &a.samples);
     (0..6).find(|&list| lengths[list] < asked[list]).map_or(0, |list| [5, 5, 6, 6, 7, 7][list])
 }
 
@@ -196,7 +218,7 @@ fn built(case: &Case) -> Given {
     // Each list is a Vec with its own length, none overlaps another; a word has the size and the alignment of a double.
     let status = unsafe {
         spoonthicket_build(
-            nu, nv, nw, a.method, a.rounds, &[x, y, z, dx, dy, dz], samples.as_ptr() as *const f64, samples.len(),
+            nu, nv, nw, a.method, a.rounds, a.inside, &[x, y, z, dx, dy, dz], samples.as_ptr() as *const f64, samples.len(),
             b.masks.as_mut_ptr(), b.masks.len(), b.table.as_mut_ptr(), b.table.len(), b.vertices.as_mut_ptr() as *mut f64,
             b.vertices.len(), b.book.as_mut_ptr(), b.book.len(), b.triangles.as_mut_ptr(), b.triangles.len(), b.edges.as_mut_ptr(),
             b.edges.len(), &mut counts,
@@ -209,10 +231,11 @@ fn built(case: &Case) -> Given {
 fn done_over(case: &Case) -> (Wanted, Answer) {
     let a = &case.asked;
     let samples = a.samples.iter().map(|&x| f64::from_bits(x)).collect();
-    let input = Input { sides: a.sides, method: a.method as u32, rounds: a.rounds as u32, origin: a.origin, step: a.step, samples };
+    let (method, rounds, inside) = (a.method as u32, a.rounds as u32, Some(a.inside));
+    let input = Input { sides: a.sides, method, rounds, inside, origin: a.origin, step: a.step, samples };
     let answer = isosurface::build(&input, a.rounds, false);
     countfile::check(&input, a.rounds, &answer);
-    assert!(answer.crossed == crossed(a.sides, &a.samples), "crossed edges counted otherwise");
+    assert!(answer.crossed == crossed(a.sides, a.inside, &a.samples), "crossed edges counted otherwise");
     assert!(answer.positions.iter().all(|x| !x.is_nan()), "a position is NaN");
     let mut rolled = vec![Vec::new(); answer.owners.len()];
     for row in answer.book.iter().filter(|row| row.round > 0) {
@@ -402,6 +425,33 @@ fn samples(rng: &mut Rng, sides: [usize; 3], kept: &[Input]) -> Vec<f64> {
     }
 }
 
+/// Samples for another threshold than the usual one: as they are, moved to it, made for it, or some of them about it.
+fn about(rng: &mut Rng, sides: [usize; 3], h: f64, samples: Vec<f64>) -> Vec<f64> {
+    // Of both zeros -0.0, so that the next further from zero is below it.
+    let edge = -h.abs();
+    match rng.below(6) {
+        0 => samples,
+        1 | 2 => {
+            let small = h.max(1e-310);
+            let size = rng.pick(&[1.0, 1.0, 0.01, small, small * 1e-15]);
+            samples.into_iter().map(|x| if x.is_finite() { edge + x * size } else { x }).collect()
+        }
+        3 => generate::threshold_field(rng, sides, edge),
+        _ => {
+            let every = rng.pick(&[2, 4, 20]);
+            let values = [edge, after(edge, 1), after(edge, -1), edge / 2.0, edge * 0.9, edge * 1.1, edge * 2.0, 0.0, -0.0, -edge, 5e-324, -5e-324];
+            samples.into_iter().map(|x| if rng.one_in(every) { rng.pick(&values) } else { x }).collect()
+        }
+    }
+}
+
+/// A threshold that is refused.
+fn not_taken(rng: &mut Rng) -> f64 {
+    let nan = f64::from_bits((rng.next() << 63) | (0x7ff0_0000_0000_0001 + rng.next() % 0xf_ffff_ffff_ffff));
+    let next = after(1.0, 1);
+    rng.pick(&[nan, nan, nan, f64::NAN, -5e-324, -5e-324, -1e-300, -1e-9, -0.25, -1.0, next, next, 1.5, 2.0, 1e300, f64::INFINITY, f64::NEG_INFINITY])
+}
+
 // ---- lists and refusals
 
 /// Bits of a coordinate that is lent: NaNs of any sign and payload, quiet and signalling, and anything else.
@@ -482,6 +532,9 @@ fn spoil(rng: &mut Rng, a: &mut Asked, lengths: &mut [usize; 6], asked: [usize; 
 fn make(seed: u64, number: u64, sizes: &[[usize; 3]], kept: &[Input]) -> Case {
     let mut rng = Rng(seed.wrapping_mul(0x2545f4914f6cdd1d) ^ number.wrapping_mul(0xd1342543de82ef95));
     rng.next();
+    // What has to do with the threshold.
+    let mut beside = Rng(seed.wrapping_mul(0xda942042e4dd58b5) ^ number.wrapping_mul(0x9fb21c651e98df25) ^ 14);
+    beside.next();
     let in_turn = (number / 3) as usize % sizes.len() * stride(sizes.len()) % sizes.len();
     let refused = number % 3 != 0 && rng.below(20) < 3;
     let sides = match number % 3 {
@@ -492,16 +545,25 @@ fn make(seed: u64, number: u64, sizes: &[[usize; 3]], kept: &[Input]) -> Case {
     let (origin, step) = generate::frame(&mut rng);
     let method = usize::from(!rng.one_in(6));
     let rounds = if rng.one_in(3) { rng.below(5) } else { 4 };
-    let samples = samples(&mut rng, sides, kept).into_iter().map(f64::to_bits).collect();
-    let mut asked = Asked { sides, method, rounds, origin, step, samples };
+    let mut samples = samples(&mut rng, sides, kept);
+    let mut inside = THRESHOLDS[0];
+    if beside.one_in(2) {
+        inside = beside.pick(&THRESHOLDS[1..]);
+        samples = about(&mut beside, sides, inside, samples);
+    }
+    let samples = samples.into_iter().map(f64::to_bits).collect();
+    let mut asked = Asked { sides, method, rounds, inside, origin, step, samples };
 
-    let exact = lengths_asked(sides, &asked.samples);
+    let exact = lengths_asked(sides, inside, &asked.samples);
     let tight = rng.one_in(4);
     let mut lengths = exact.map(|n| if tight || rng.one_in(2) { n } else { n + rng.pick(&[1, 2, 13, 100, n / 4 + 1]) });
     if refused {
         for _ in 0..1 + usize::from(rng.one_in(3)) {
             spoil(&mut rng, &mut asked, &mut lengths, exact);
         }
+    }
+    if number % 3 != 0 && beside.one_in(if refused { 2 } else { 40 }) {
+        asked.inside = not_taken(&mut beside);
     }
     let counts = [0; 10].map(|_| rng.next() as usize);
     Case { asked, lent: lists(&mut rng, lengths), counts }
@@ -513,8 +575,10 @@ fn make(seed: u64, number: u64, sizes: &[[usize; 3]], kept: &[Input]) -> Case {
 struct Tally {
     boxes: usize,
     equal: usize,
-    refused: [usize; 8],
+    refused: [usize; 15],
     method: [usize; 2],
+    /// Boxes of each of THRESHOLDS, and those of them with a crossed edge whose two samples are below 0.
+    thresholds: [[usize; 2]; THRESHOLDS.len()],
     split: usize,
     clusters: usize,
     rounds: [usize; 5],
@@ -540,7 +604,8 @@ impl Tally {
         self.boxes += 1;
         if let Err(why) = told {
             if self.smallest.as_ref().is_none_or(|(sites, _, _)| a.samples.len() < *sites) {
-                let what = format!("{:?} sites, method {}, rounds {}, lists of {:?}: {why}", a.sides, a.method, a.rounds, case.lent.lengths());
+                let asked = format!("{:?} sites, method {}, rounds {}, threshold {:016x}", a.sides, a.method, a.rounds, a.inside.to_bits());
+                let what = format!("{asked}, lists of {:?}: {why}", case.lent.lengths());
                 self.smallest = Some((a.samples.len(), number, what));
             }
             return;
@@ -552,6 +617,10 @@ impl Tally {
             return;
         };
         self.method[a.method] += 1;
+        let negative = crossed_where(a.sides, a.inside, &a.samples, |x, y| x < 0.0 && y < 0.0) > 0;
+        let row = &mut self.thresholds[THRESHOLDS.iter().position(|h| h.to_bits() == a.inside.to_bits()).unwrap()];
+        row[0] += 1;
+        row[1] += usize::from(negative);
         self.split += usize::from(!answer.split.is_empty());
         self.clusters += answer.split.len();
         self.rounds[answer.owners.len()] += 1;
@@ -559,12 +628,12 @@ impl Tally {
         let floats = || a.samples.iter().map(|&x| f64::from_bits(x));
         let finite = floats().all(|x| x.is_finite());
         self.not_finite += usize::from(!finite);
-        let input = Input { sides: a.sides, method: 0, rounds: 0, origin: a.origin, step: a.step, samples: floats().collect() };
+        let input = Input { sides: a.sides, method: 0, rounds: 0, inside: Some(a.inside), origin: a.origin, step: a.step, samples: floats().collect() };
         self.one_sided += usize::from(finite && answer.crossed > 0 && countfile::one_sided(&input));
         self.sites += a.samples.len();
         self.triangles += answer.triangles.len() / 3;
         self.vertices += answer.book.len();
-        self.longer += usize::from(case.lent.lengths() != lengths_asked(a.sides, &a.samples));
+        self.longer += usize::from(case.lent.lengths() != lengths_asked(a.sides, a.inside, &a.samples));
         self.sizes.insert(a.sides);
         self.ranges[RANGES.iter().filter(|&&from| from <= a.samples.len()).count() - 1] += 1;
     }
@@ -572,9 +641,12 @@ impl Tally {
     fn print(&self, seed: u64, from: u64, of: usize, seconds: f64) {
         let done: usize = self.method.iter().sum();
         println!("boxes {from} to {} of seed {seed}: {} equal, {} not, in {seconds:.0} s", from + self.boxes as u64 - 1, self.equal, self.boxes - self.equal);
-        let refused: Vec<String> = (1..8).map(|k| format!("{k}: {}", self.refused[k])).collect();
+        let refused: Vec<String> = [1, 2, 3, 4, 14, 5, 6, 7].map(|k| format!("{k}: {}", self.refused[k])).into();
         println!("refused {}, by number {}", self.refused.iter().sum::<usize>(), refused.join(", "));
         println!("done {done}: method 0 {}, method 1 {}; {} with lists that are longer than asked for", self.method[0], self.method[1], self.longer);
+        let rows = THRESHOLDS.iter().zip(self.thresholds);
+        let rows: Vec<String> = rows.map(|(h, [boxes, negative])| format!("{h:e}: {boxes} ({negative})")).collect();
+        println!("by threshold, and with an edge crossed between two samples below 0: {}", rows.join(", "));
         println!("with a split {} ({} clusters)", self.split, self.clusters);
         let rounds: Vec<String> = self.rounds.iter().map(usize::to_string).collect();
         println!("with 0, 1, 2, 3, 4 rounds {} ({} sites rolled back)", rounds.join(", "), self.owners);
@@ -658,7 +730,7 @@ fn wrong_answers() -> Vec<Wrong> {
         all.push((format!("count {k} of a build one less"), |_, w, g, k| (w.status == 0 && g.counts[k] > 0).then(|| g.counts[k] -= 1), k));
         all.push((format!("count {k} of a refusal not 0"), |_, w, g, k| (w.status != 0).then(|| g.counts[k] = 1), k));
     }
-    for status in 0..9 {
+    for status in (0..9).chain([14]) {
         all.push((format!("status {status} where another is right"), |_, w, g, status| (w.status != status).then(|| g.status = status), status));
     }
     for bit in [0, 31, 50, 51, 63] {

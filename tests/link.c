@@ -1,4 +1,4 @@
-/* Links the archive from C by the header: the example (docs/SCOPE.md, S10.6), one refusal, a box of negative samples without a spike, its PLY file written and read, the volume of docs/SCOPE.md, S12.5, the topology test and the sort.
+/* Links the archive from C by the header: the example (docs/SCOPE.md, S10.6), refusals, thresholds, a box of negative samples without a spike, its PLY file written and read, the volume of docs/SCOPE.md, S12.5, the topology test and the sort.
    Prints "ok". */
 #include "spoonthicket.h"
 
@@ -21,6 +21,67 @@ static int failed(const char *what)
     return 1;
 }
 
+/* Fills the six lists with one byte. */
+static void stain(void)
+{
+    memset(masks, 0x5A, sizeof masks);
+    memset(table, 0x5A, sizeof table);
+    memset(vertices, 0x5A, sizeof vertices);
+    memset(book, 0x5A, sizeof book);
+    memset(triangles, 0x5A, sizeof triangles);
+    memset(edges, 0x5A, sizeof edges);
+}
+
+static int other(const void *list, size_t size)
+{
+    const unsigned char *bytes = list;
+    size_t i;
+
+    for (i = 0; i < size; i++)
+        if (bytes[i] != 0x5A)
+            return 1;
+    return 0;
+}
+
+/* Whether a byte of the six lists is not the one that stain put there. */
+static int stored(void)
+{
+    return other(masks, sizeof masks) || other(table, sizeof table) || other(vertices, sizeof vertices) || other(book, sizeof book)
+           || other(triangles, sizeof triangles) || other(edges, sizeof edges);
+}
+
+/* The double with these bits. */
+static double of_bits(uint64_t bits)
+{
+    double x;
+
+    memcpy(&x, &bits, sizeof x);
+    return x;
+}
+
+/* The box of 27 samples with this threshold; the masks are said to be so many. */
+static size_t built(double inside, const double *frame, size_t masks_len, size_t *counts)
+{
+    return spoonthicket_build(3, 3, 3, 1, 4, inside, frame, samples, SITES, masks, masks_len, table, 7 * SITES, vertices, 3 * MOST,
+                              book, 4 * MOST, triangles, 36 * CELLS, edges, 108 * CELLS, counts);
+}
+
+/* Whether it is refused with this number, with zeros for all counts and nothing stored. */
+static int refused(size_t number, double inside, const double *frame, size_t masks_len)
+{
+    size_t counts[SPOONTHICKET_COUNTS];
+    size_t i;
+
+    stain();
+    memset(counts, 0xFF, sizeof counts);
+    if (built(inside, frame, masks_len, counts) != number)
+        return 0;
+    for (i = 0; i < SPOONTHICKET_COUNTS; i++)
+        if (counts[i] != 0)
+            return 0;
+    return !stored();
+}
+
 int main(void)
 {
     const double frame[6] = {0.0, 0.0, 0.0, 1.0, 1.0, 1.0};
@@ -32,7 +93,7 @@ int main(void)
     for (i = 0; i < SITES; i++)
         samples[i] = i == 13 ? -1.0 : 1.0;
     memset(counts, 0xFF, sizeof counts);
-    if (spoonthicket_build(3, 3, 3, 1, 4, frame, samples, SITES, masks, SITES, table, 7 * SITES, vertices, 3 * MOST, book, 4 * MOST,
+    if (spoonthicket_build(3, 3, 3, 1, 4, SPOONTHICKET_INSIDE, frame, samples, SITES, masks, SITES, table, 7 * SITES, vertices, 3 * MOST, book, 4 * MOST,
                            triangles, 36 * CELLS, edges, 108 * CELLS, counts) != SPOONTHICKET_DONE)
         return failed("the example is refused");
     if (memcmp(counts, wanted, sizeof counts) != 0)
@@ -71,7 +132,7 @@ int main(void)
         /* All samples negative, the one in the middle inside: fourteen vertices, each at a site around it, which are whole and at most 3 off. */
         for (i = 0; i < SITES; i++)
             samples[i] = i == 13 ? -2.0e-9 : -1.0e-9;
-        if (spoonthicket_build(3, 3, 3, 1, 4, frame, samples, SITES, masks, SITES, table, 7 * SITES, vertices, 3 * MOST, book, 4 * MOST,
+        if (spoonthicket_build(3, 3, 3, 1, 4, SPOONTHICKET_INSIDE, frame, samples, SITES, masks, SITES, table, 7 * SITES, vertices, 3 * MOST, book, 4 * MOST,
                                triangles, 36 * CELLS, edges, 108 * CELLS, counts) != SPOONTHICKET_DONE || counts[SPOONTHICKET_MADE] != 14)
             return failed("the box of negative samples");
         for (i = 0; i < 3 * counts[SPOONTHICKET_MADE]; i++)
@@ -79,6 +140,68 @@ int main(void)
                 return failed("a vertex that is at no site");
         for (i = 0; i < SITES; i++)
             samples[i] = i == 13 ? -1.0 : 1.0;
+    }
+
+    {
+        /* Thresholds that are refused: NaNs, the doubles next to the limits, infinities. 4 comes before 14, and 14 before 5. */
+        const uint64_t bad[10] = {UINT64_C(0x7FF8000000000000), UINT64_C(0xFFF8000000000000), UINT64_C(0x7FF0000000000001), UINT64_C(0xFFFFFFFFFFFFFFFF),
+                                  UINT64_C(0x8000000000000001), UINT64_C(0xBE112E0BE826D695), UINT64_C(0x3FF0000000000001), UINT64_C(0x4000000000000000),
+                                  UINT64_C(0x7FF0000000000000), UINT64_C(0xFFF0000000000000)};
+        const double taken[7] = {0.0, -0.0, SPOONTHICKET_INSIDE, 1.0e-12, 1.0e-300, 0.25, 0.5};
+        const double flat[6] = {0.0, 0.0, 0.0, 1.0, 0.0, 1.0};
+
+        for (i = 0; i < 10; i++) {
+            const double inside = of_bits(bad[i]);
+
+            if (!refused(SPOONTHICKET_THRESHOLD, inside, frame, SITES))
+                return failed("a threshold is not refused");
+            if (!refused(SPOONTHICKET_FRAME, inside, flat, SITES - 1))
+                return failed("a frame is not refused before a threshold");
+            if (!refused(SPOONTHICKET_THRESHOLD, inside, frame, SITES - 1))
+                return failed("a threshold is not refused before short masks");
+        }
+        if (!refused(SPOONTHICKET_SITES, 1.0, frame, SITES - 1))
+            return failed("short masks are not refused");
+        for (i = 0; i < 7; i++)
+            if (built(taken[i], frame, SITES, counts) != SPOONTHICKET_DONE || memcmp(counts, wanted, sizeof counts) != 0)
+                return failed("a threshold is refused, or changes the example");
+        if (built(of_bits(1), frame, SITES, counts) != SPOONTHICKET_DONE || memcmp(counts, wanted, sizeof counts) != 0)
+            return failed("the least threshold above 0");
+        if (built(1.0, frame, SITES, counts) != SPOONTHICKET_DONE || memcmp(counts, none, sizeof counts) != 0)
+            return failed("-1 is inside to the threshold 1");
+
+        /* 0.25: -0.25 is outside, the next double below it inside; -0.2 is outside, and the vertices stand at its sites. */
+        samples[13] = -0.25;
+        if (built(0.25, frame, SITES, counts) != SPOONTHICKET_DONE || memcmp(counts, none, sizeof counts) != 0)
+            return failed("-0.25 is inside to the threshold 0.25");
+        samples[13] = of_bits(UINT64_C(0xBFD0000000000001));
+        if (built(0.25, frame, SITES, counts) != SPOONTHICKET_DONE || counts[SPOONTHICKET_CROSSED] != 14)
+            return failed("the next below -0.25 is outside to the threshold 0.25");
+        for (i = 0; i < SITES; i++)
+            samples[i] = i == 13 ? -0.3 : -0.2;
+        if (built(SPOONTHICKET_INSIDE, frame, SITES, counts) != SPOONTHICKET_DONE || memcmp(counts, none, sizeof counts) != 0)
+            return failed("all are inside, and an edge is crossed");
+        if (built(0.25, frame, SITES, counts) != SPOONTHICKET_DONE || counts[SPOONTHICKET_CROSSED] != 14 || counts[SPOONTHICKET_MADE] != 14
+            || counts[SPOONTHICKET_TRIANGLES] != 24)
+            return failed("the box of the threshold 0.25");
+        for (i = 0; i < 3 * counts[SPOONTHICKET_MADE]; i++)
+            if (!(vertices[i] >= -3.0 && vertices[i] <= 3.0 && (double)(int)vertices[i] == vertices[i]))
+                return failed("a vertex of the threshold 0.25 that is at no site");
+        for (i = 0; i < counts[SPOONTHICKET_MADE]; i++)
+            if (book[4 * i] == 13)
+                return failed("a vertex of the threshold 0.25 that is at the middle");
+
+        /* A sample of -0.0 is outside, to the threshold 0 too; the least below 0 is inside to that one alone. */
+        for (i = 0; i < SITES; i++)
+            samples[i] = i == 13 ? -0.0 : 1.0;
+        for (i = 0; i < 7; i++)
+            if (built(taken[i], frame, SITES, counts) != SPOONTHICKET_DONE || memcmp(counts, none, sizeof counts) != 0)
+                return failed("-0.0 is inside");
+        samples[13] = of_bits(UINT64_C(0x8000000000000001));
+        for (i = 0; i < 7; i++)
+            if (built(taken[i], frame, SITES, counts) != SPOONTHICKET_DONE || counts[SPOONTHICKET_CROSSED] != (i < 2 ? 14u : 0u))
+                return failed("the least below 0");
+        samples[13] = -1.0;
     }
 
     {
@@ -90,7 +213,7 @@ int main(void)
 
         samples[13] = -3.0;
         for (method = 0; method < 2; method++) {
-            if (spoonthicket_build(3, 3, 3, method, 4, apart, samples, SITES, masks, SITES, table, 7 * SITES, vertices, 3 * MOST, book, 4 * MOST,
+            if (spoonthicket_build(3, 3, 3, method, 4, SPOONTHICKET_INSIDE, apart, samples, SITES, masks, SITES, table, 7 * SITES, vertices, 3 * MOST, book, 4 * MOST,
                                    triangles, 36 * CELLS, edges, 108 * CELLS, counts) != SPOONTHICKET_DONE)
                 return failed("the box of the check is refused");
             made = 3 * counts[SPOONTHICKET_MADE];
@@ -122,30 +245,31 @@ int main(void)
         samples[13] = -1.0;
     }
 
-    memset(masks, 0x5A, sizeof masks);
-    if (spoonthicket_build(3, 3, 3, 1, 4, frame, samples, SITES, masks, SITES, table, 7 * SITES, vertices, 3 * MOST, book, 4 * MOST - 1,
+    stain();
+    if (spoonthicket_build(3, 3, 3, 1, 4, SPOONTHICKET_INSIDE, frame, samples, SITES, masks, SITES, table, 7 * SITES, vertices, 3 * MOST, book, 4 * MOST - 1,
                            triangles, 36 * CELLS, edges, 108 * CELLS, counts) != SPOONTHICKET_VERTICES)
         return failed("a short book is not refused");
     if (memcmp(counts, none, sizeof counts) != 0)
         return failed("a refusal's counts");
-    for (i = 0; i < SITES; i++)
-        if (masks[i] != 0x5A5A)
-            return failed("a refusal stored something");
+    if (stored())
+        return failed("a refusal stored something");
 
     {
         double ends[14] = {1.0, 1.0, 0.0, 0.0, -3.0, 0.0, 0.0, 0.0, 0.0, 0.0, 0.0, 0.0, 0.0, -3.0};
         uint16_t clusters[14];
         size_t visits[1] = {99};
-        if (spoonthicket_topology(0x2014, 1, ends, clusters, visits) != 2)
+        if (spoonthicket_topology(0x2014, 1, SPOONTHICKET_INSIDE, ends, clusters, visits) != 2)
             return failed("the flat hole");
         if (visits[0] != 14)
             return failed("the flat hole's visits");
-        if (spoonthicket_topology(0x2014, 0, ends, clusters, visits) != 5 || visits[0] != 0)
+        if (spoonthicket_topology(0x2014, 0, SPOONTHICKET_INSIDE, ends, clusters, visits) != 5 || visits[0] != 0)
             return failed("visits where nothing is clustered");
         if (spoonthicket_visits(0x2014) != 3 || spoonthicket_visits(0xFFFF) != 14 || spoonthicket_visits(0xC000) != 0)
             return failed("the visits of a walk");
         if (clusters[0] != 4 || clusters[1] != 0x10 || clusters[2] != 0x2000 || clusters[3] != 0)
             return failed("the flat hole's clusters");
+        if (spoonthicket_topology(0x2014, 1, 3.0, ends, clusters, visits) != 4 || spoonthicket_topology(0x2014, 1, 2.5, ends, clusters, visits) != 2)
+            return failed("the flat hole by the threshold");
     }
     {
         uint32_t words[7] = {2, 1, 1, 1, 9, 9, 5};

@@ -6,7 +6,7 @@
 //! site, in a box of 32 a side whose border is all outside. A ball's sample is the distance from its surface. A cone stands on flat ground as a pile does; its
 //! sample is how far the site is above the slope, or below the ground, whichever is larger (examples/README.md).
 
-use spoonthicket::{build, Mesh, Request};
+use spoonthicket::{build, Mesh, Request, INSIDE};
 use std::f64::consts::PI;
 
 const SIDE: usize = 32;
@@ -60,7 +60,7 @@ fn measured(body: Body, method: usize, rise: f64, shift: usize) -> Measured {
             }
         }
     }
-    let request = Request { sides: [SIDE; 3], method, rounds: 4, origin: [0.0; 3], step: [1.0, 1.0, rise], samples: &samples };
+    let request = Request { sides: [SIDE; 3], method, rounds: 4, inside: INSIDE, origin: [0.0; 3], step: [1.0, 1.0, rise], samples: &samples };
     Measured { mesh: build(&request).unwrap(), middle }
 }
 

@@ -1,6 +1,6 @@
 //! The count file (docs/SCOPE.md, S10), read into what a build is asked for. This reader is plain Rust; the proved one is crates/count_file.
 
-use crate::Request;
+use crate::{Request, INSIDE};
 
 /// A count file's values.
 #[derive(Clone, Debug, PartialEq)]
@@ -8,6 +8,8 @@ pub struct CountFile {
     pub sides: [usize; 3],
     pub method: usize,
     pub rounds: usize,
+    /// The threshold: INSIDE where the file has no line for it.
+    pub inside: f64,
     pub origin: [f64; 3],
     pub step: [f64; 3],
     pub samples: Vec<f64>,
@@ -15,7 +17,15 @@ pub struct CountFile {
 
 impl CountFile {
     pub fn request(&self) -> Request<'_> {
-        Request { sides: self.sides, method: self.method, rounds: self.rounds, origin: self.origin, step: self.step, samples: &self.samples }
+        Request {
+            sides: self.sides,
+            method: self.method,
+            rounds: self.rounds,
+            inside: self.inside,
+            origin: self.origin,
+            step: self.step,
+            samples: &self.samples,
+        }
     }
 }
 
@@ -45,6 +55,8 @@ pub fn read(bytes: &[u8]) -> Option<CountFile> {
     let sides = [decimal(rest, "nu")?, decimal(rest, "nv")?, decimal(rest, "nw")?];
     let method = decimal(rest, "method")?;
     let rounds = decimal(rest, "rounds")?;
+    // The one line that may be left out.
+    let inside = if rest.starts_with("inside=") { float(rest, "inside")? } else { INSIDE };
     let origin = [float(rest, "origin0")?, float(rest, "origin1")?, float(rest, "origin2")?];
     let step = [float(rest, "step0")?, float(rest, "step1")?, float(rest, "step2")?];
     let sites: u128 = sides.iter().map(|&n| n as u128).product();
@@ -55,5 +67,5 @@ pub fn read(bytes: &[u8]) -> Option<CountFile> {
     for _ in 0..sites {
         samples.push(float(rest, "s")?);
     }
-    rest.is_empty().then_some(CountFile { sides, method, rounds, origin, step, samples })
+    rest.is_empty().then_some(CountFile { sides, method, rounds, inside, origin, step, samples })
 }

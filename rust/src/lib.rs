@@ -13,6 +13,7 @@ mod linked {
             nw: usize,
             method: usize,
             rounds: usize,
+            inside: f64,
             frame: *const [f64; 6],
             samples: *const f64,
             samples_len: usize,
@@ -33,6 +34,7 @@ mod linked {
         pub fn spoonthicket_topology(
             mask: u16,
             method: usize,
+            inside: f64,
             ends: *const [f64; 14],
             clusters: *mut [u16; 14],
             visits: *mut [usize; 1],
@@ -83,6 +85,9 @@ mod linked {
 /// An entry of the edge table without a vertex.
 pub const NONE: u32 = 0xFFFF_FFFF;
 
+/// The threshold that was fixed before it could be given, and that a count file without a line `inside=` means.
+pub const INSIDE: f64 = 1.0e-9;
+
 /// What a build is asked for. The samples are those of sites u + nu * (v + nv * w), isovalue taken off.
 #[derive(Clone, Copy, Debug)]
 pub struct Request<'a> {
@@ -91,12 +96,16 @@ pub struct Request<'a> {
     pub method: usize,
     /// At most so many rollback rounds, 0 to 4.
     pub rounds: usize,
+    /// The threshold, 0 to 1: a sample is inside where it is below -inside, and outside otherwise, a NaN too. It moves the side and not the point, which
+    /// stands where the values would cross 0, held to its edge.
+    pub inside: f64,
     pub origin: [f64; 3],
     pub step: [f64; 3],
     pub samples: &'a [f64],
 }
 
-/// Why nothing was built: the number of docs/SCOPE.md, S9.2, 1 to 7.
+/// Why nothing was built: the number of docs/SCOPE.md, S9.2, 1 to 7 or 14. The tests are made in the order 1, 2, 3, 4, 14, 5, 6, 7, and the first that fails
+/// gives the number.
 #[derive(Clone, Copy, Debug, PartialEq, Eq)]
 pub struct Refusal(pub usize);
 
@@ -110,6 +119,7 @@ impl Refusal {
             5 => "masks shorter than the sites, or edge table shorter than 7 a site",
             6 => "vertices shorter than 3X, or vertex book shorter than 4X",
             7 => "triangles shorter than 36 a cell, or edge list shorter than 108 a cell",
+            14 => "a threshold not within 0 to 1, or NaN",
             _ => "no refusal of this library",
         }
     }
@@ -202,6 +212,7 @@ pub fn build_in(request: &Request, b: &mut Buffers) -> Result<Counts, Refusal> {
             nw,
             request.method,
             request.rounds,
+            request.inside,
             &frame,
             request.samples.as_ptr(),
             request.samples.len(),
@@ -263,7 +274,15 @@ impl Mesh {
     /// // One site inside: -3 in the middle of 3 x 3 x 3 sites four units apart.
     /// let mut samples = [1.0; 27];
     /// samples[13] = -3.0;
-    /// let request = spoonthicket::Request { sides: [3, 3, 3], method: 0, rounds: 0, origin: [0.0; 3], step: [4.0; 3], samples: &samples };
+    /// let request = spoonthicket::Request {
+    ///     sides: [3, 3, 3],
+    ///     method: 0,
+    ///     rounds: 0,
+    ///     inside: spoonthicket::INSIDE,
+    ///     origin: [0.0; 3],
+    ///     step: [4.0; 3],
+    ///     samples: &samples,
+    /// };
     /// let mesh = spoonthicket::build(&request).unwrap();
     /// assert_eq!(mesh.six_volume(1.0, [0, 0, 0]), Ok(1296));
     /// assert_eq!(mesh.six_volume(1.0, [5, -7, 11]), Ok(1296));
@@ -282,6 +301,19 @@ fn rows<T: Copy, const N: usize>(flat: &[T], count: usize) -> Vec<[T; N]> {
 }
 
 /// A build in buffers of its own, large enough: so no refusal 5, 6 or 7.
+///
+/// ```
+/// use spoonthicket::{build, Refusal, Request, INSIDE};
+///
+/// // One sample a little below 0: a body to a fine scan, nothing to an old one that is good to a quarter.
+/// let mut samples = [1.0; 27];
+/// samples[13] = -0.1;
+/// let request = Request { sides: [3, 3, 3], method: 0, rounds: 0, inside: INSIDE, origin: [0.0; 3], step: [1.0; 3], samples: &samples };
+/// assert_eq!(build(&request).unwrap().counts.crossed, 14);
+/// assert_eq!(build(&Request { inside: 0.25, ..request }).unwrap().counts.crossed, 0);
+/// assert_eq!(build(&Request { inside: 0.0, ..request }).unwrap().counts.crossed, 14);
+/// assert_eq!(build(&Request { inside: 1.5, ..request }), Err(Refusal(14)));
+/// ```
 pub fn build(request: &Request) -> Result<Mesh, Refusal> {
     let mut b = Buffers::for_sides(request.sides);
     let counts = build_in(request, &mut b)?;
@@ -306,12 +338,12 @@ pub struct Topology {
     pub visits: usize,
 }
 
-/// The topology test of one mask. A value that is not finite counts as missing. With a method other than 1 the case is 5, not clustered; without any of the
-/// fourteen bits it is 4 for every method.
-pub fn topology(mask: u16, method: usize, ends: &[f64; 14]) -> Topology {
+/// The topology test of one mask. A value that is not finite counts as missing; the others are inside where they are below -inside, which takes every threshold,
+/// also one that a build refuses. With a method other than 1 the case is 5, not clustered; without any of the fourteen bits it is 4 for every method.
+pub fn topology(mask: u16, method: usize, inside: f64, ends: &[f64; 14]) -> Topology {
     let mut clusters = [0; 14];
     let mut visits = [0];
-    let case = unsafe { linked::spoonthicket_topology(mask, method, ends, &mut clusters, &mut visits) };
+    let case = unsafe { linked::spoonthicket_topology(mask, method, inside, ends, &mut clusters, &mut visits) };
     Topology { case, clusters: clusters.into_iter().take_while(|&m| m != 0).collect(), visits: visits[0] }
 }
 

@@ -2,7 +2,7 @@
 //! full and one short.
 
 use spoonthicket::ply::{length, read, read_in, sizes, write_in, write_mesh_in, Ply, Refusal};
-use spoonthicket::{build, Request};
+use spoonthicket::{build, Request, INSIDE};
 
 /// The file, by plain Rust.
 fn plain(words: &[u64], triangles: &[u32]) -> Vec<u8> {
@@ -273,7 +273,7 @@ fn meshes_of_builds() {
     for round in 0..120 {
         let sides = if round == 0 { [32, 32, 32] } else { [1 + r.below(7), 1 + r.below(7), 1 + r.below(7)] };
         let s: Vec<f64> = (0..sides.iter().product()).map(|_| r.below(2001) as f64 / 500.0 - 2.0).collect();
-        let request = Request { sides, method: r.below(2), rounds: r.below(5), origin: [1.0e6, -2.5, 0.1], step: [0.3, 0.7, 1.1], samples: &s };
+        let request = Request { sides, method: r.below(2), rounds: r.below(5), inside: INSIDE, origin: [1.0e6, -2.5, 0.1], step: [0.3, 0.7, 1.1], samples: &s };
         let mesh = build(&request).unwrap();
         let bytes = mesh.to_ply();
         largest = largest.max(bytes.len());

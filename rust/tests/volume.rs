@@ -2,7 +2,7 @@
 //! builds at other origins, in other orders, turned and reversed, and the pieces of a cut survey.
 
 use spoonthicket::volume::{six_volume, six_volume_of, Refusal};
-use spoonthicket::{build, Mesh, Request};
+use spoonthicket::{build, Mesh, Request, INSIDE};
 
 /// As include/spoonthicket.h has it, to see what is left in `six`.
 mod linked {
@@ -101,11 +101,11 @@ const ONE: [u32; 3] = [0, 1, 2];
 const HERE: [i64; 3] = [0; 3];
 
 #[test]
-fn the_check_of_document_02() {
+fn the_check_of_the_scope() {
     let mut s = vec![1.0; 27];
     s[13] = -3.0;
     for (method, rounds) in [(0, 0), (0, 4), (1, 0), (1, 4)] {
-        let mesh = build(&Request { sides: [3, 3, 3], method, rounds, origin: [0.0; 3], step: [4.0; 3], samples: &s }).unwrap();
+        let mesh = build(&Request { sides: [3, 3, 3], method, rounds, inside: INSIDE, origin: [0.0; 3], step: [4.0; 3], samples: &s }).unwrap();
         assert_eq!((mesh.counts.vertices, mesh.counts.triangles), (14, 24));
         for origin in [HERE, [5, -7, 11]] {
             assert_eq!(mesh.six_volume(1.0, origin), Ok(1296));
@@ -440,7 +440,7 @@ fn meshes_of_builds() {
         let least = if closed { 3 } else { 1 };
         let sides = if round < 4 { [32; 3] } else { std::array::from_fn(|_| least + r.below(8)) };
         let s = noise(&mut r, sides, closed);
-        let request = Request { sides, method: round % 2, rounds: r.below(5), origin: [1.0e6, -2.5, 0.1], step: [0.3, 0.7, 1.1], samples: &s };
+        let request = Request { sides, method: round % 2, rounds: r.below(5), inside: INSIDE, origin: [1.0e6, -2.5, 0.1], step: [0.3, 0.7, 1.1], samples: &s };
         let mesh = build(&request).unwrap();
         largest = largest.max(mesh.triangles.len());
         let flat = mesh.positions.as_flattened();
@@ -482,7 +482,7 @@ fn meshes_of_builds() {
 #[test]
 fn an_open_surface_moves() {
     let s: Vec<f64> = (0..27).map(|k| if k % 3 == 0 { -1.0 } else { 1.0 }).collect();
-    let mesh = build(&Request { sides: [3, 3, 3], method: 0, rounds: 0, origin: [0.0; 3], step: [4.0; 3], samples: &s }).unwrap();
+    let mesh = build(&Request { sides: [3, 3, 3], method: 0, rounds: 0, inside: INSIDE, origin: [0.0; 3], step: [4.0; 3], samples: &s }).unwrap();
     assert_ne!(mesh.six_volume(1.0, HERE), mesh.six_volume(1.0, [5, -7, 11]));
 }
 
@@ -496,7 +496,7 @@ fn pieces_add_up() {
         let closed = round % 2 == 0;
         let s = noise(&mut r, sides, closed);
         let (step, from) = (r.any(&[0.25, 1.0, 4.0]), [512.0, -64.25, 0.5]);
-        let whole = build(&Request { sides, method: 0, rounds: 0, origin: from, step: [step; 3], samples: &s }).unwrap();
+        let whole = build(&Request { sides, method: 0, rounds: 0, inside: INSIDE, origin: from, step: [step; 3], samples: &s }).unwrap();
         if whole.triangles.is_empty() {
             continue;
         }
@@ -516,7 +516,7 @@ fn pieces_add_up() {
             let [u, v, w] = low.map(|n| n as f64);
             let origin = [from[0] + (w - u - v) * step, from[1] + (u - v) * step, from[2] - w * step];
             let sides = std::array::from_fn(|axis| high[axis] - low[axis] + 1);
-            pieces.push(build(&Request { sides, method: 0, rounds: 0, origin, step: [step; 3], samples: &samples }).unwrap());
+            pieces.push(build(&Request { sides, method: 0, rounds: 0, inside: INSIDE, origin, step: [step; 3], samples: &samples }).unwrap());
         }
         assert_eq!(pieces.iter().map(|p| p.triangles.len()).sum::<usize>(), whole.triangles.len());
         for _ in 0..3 {
