@@ -1,5 +1,6 @@
 // What C and Rust link: the build, PLY files, the volume, and three leaves for whoever measures. No function here asks anything of its caller but that each
 // list is as long as it says, that the lists do not overlap, and that the fixed ones have their entries.
+#![tactic(auto)]
 ghost use Rattle.std.specs.Prelude.{◌≡◌, ◌<◌};
 ghost use Rattle.marks.specs.Marks.{sample};
 ghost use Rattle.sort.specs.Order.{Sorts};

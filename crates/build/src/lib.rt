@@ -1,4 +1,5 @@
 // The build: the door. It refuses what can't be done, by a number, and hands a granted request with the used parts of the six lent lists to the engine.
+#![tactic(auto)]
 ghost use Rattle.std.specs.Prelude.{◌≡◌};
 ghost use Rattle.build.specs.Answer.{lists, refused_answer, BuildIn};
 ghost use Rattle.build.specs.Inner.Grants.{made_answer, Grantable, Grants};
@@ -9,7 +10,7 @@ use points::Frame;
 use refusals::Lengths;
 
 // The counts are those of docs/SCOPE.md, S9.4, in the order in which they are printed.
-#[derive(Drop)]
+#[derive(Clone, Copy)]
 pub struct Answer {
     pub status: usize,
     pub crossed: usize,

@@ -1,4 +1,5 @@
 // The count file: read from bytes; and the count program's answer, printed as bytes.
+#![tactic(auto)]
 ghost use Rattle.std.specs.Prelude.{◌≡◌, ◌+◌, ◌≤◌, ◌<◌, length};
 ghost use Rattle.laws.specs.Written.{Written};
 ghost use Rattle.lines.specs.Lines.{lines};
@@ -22,7 +23,7 @@ pub const ENOUGH: usize = 4346;
 pub const INSIDE: u64 = 0x3E112E0BE826D695;
 
 // What the header says: nu, nv, nw, method and rounds; the bits of the threshold, of the three origins, and of the three steps.
-#[derive(Drop)]
+#[derive(Clone, Copy)]
 pub struct Head {
     pub sizes: [u64; 5],
     pub inside: u64,
@@ -42,7 +43,7 @@ fn zero_head() -> Head
 }
 
 // The header, and where the samples start.
-#[derive(Drop)]
+#[derive(Clone, Copy)]
 struct Found {
     good: bool,
     next: usize,
@@ -61,7 +62,7 @@ fn not_found() -> Found
 }
 
 // The bits of the threshold, and where the line after them starts.
-#[derive(Drop)]
+#[derive(Clone, Copy)]
 struct Threshold {
     bits: u64,
     next: usize,
@@ -165,7 +166,7 @@ fn sites_of(nu: u64, nv: u64, nw: u64) -> usize
 }
 
 // What a count file says: its header, and the bits of each site's sample, zeros past the sites. All is zero where `good` is false: the input is no count file.
-#[derive(Drop)]
+#[derive(Clone, Copy)]
 pub struct Parsed {
     pub good: bool,
     pub head: Head,

@@ -1,5 +1,6 @@
 // The count program: reads a count file from standard input, or from the file that its one argument names, and prints the answer.
 // The number that it prints is 0, 1, 2 (a side of 33 to 216), 4, 8 or 14: no input brings about another.
+#![tactic(auto)]
 
 fn main() {
     let mut space = [0u8; count_file::ENOUGH];

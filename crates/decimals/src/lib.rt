@@ -1,4 +1,5 @@
 // Whole numbers in decimal, read and printed: with a minus where they are below 0, and with digits behind a point.
+#![tactic(auto)]
 ghost use Rattle.std.specs.Prelude.{◌≡◌, ◌+◌, ◌≤◌, length};
 ghost use Rattle.laws.specs.Written.{Written};
 ghost use Rattle.decimals.specs.Decimals.{sign_of, pointed, decimal};
@@ -7,13 +8,13 @@ ghost use Rattle.decimals.specs.Readers.{NaturalOf, SignedOf};
 // ---- reading
 
 // The number that the bytes are, if they are one of this type.
-#[derive(Drop)]
+#[derive(Clone, Copy)]
 pub enum Natural {
     NoNatural,
     Is(u64),
 }
 
-#[derive(Drop)]
+#[derive(Clone, Copy)]
 pub enum Signed {
     NoNumber,
     Number(i64),

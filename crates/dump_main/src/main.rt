@@ -1,5 +1,6 @@
 // Reads a count file from standard input, or from the file that its one argument names, and prints the answer and then all that the build leaves behind, in the format of tools/oracle/FORMAT.md.
 // A build keeps no list of the clusters that it split, nor of the sites that it rolled back: both are read off the edge table and the vertex book.
+#![tactic(auto)]
 ghost use Rattle.std.specs.Prelude.{◌<◌, ◌≤◌, length};
 ghost use Rattle.lattice.specs.Sites.{SidesFit, sites};
 ghost use Rattle.marks.specs.Inner.Loops.{Sampled};
@@ -108,7 +109,7 @@ fn show_tets(n: Sides, samples: &[f64], h: f64)
 // ---- splits
 
 // Where the walk over the candidates stands: the number of the next one, and the next vertex of round 0.
-#[derive(Drop)]
+#[derive(Clone, Copy)]
 struct Walk {
     candidate: usize,
     vertex: usize,

@@ -1,4 +1,5 @@
 // The engine: everything after a granted request. Samples to masks, vertices and triangles, in the used parts of six lent lists.
+#![tactic(auto)]
 ghost use Rattle.vertex_pass.specs.Inner.Passing.{flag_of};
 ghost use Rattle.engine.specs.Engine.{work, Handed, Ran};
 ghost use Rattle.engine.specs.Inner.Standing.{Lent, Roomy, Parting, Paired, Placed, Stood, TurnedAll, SettledAll, Finished};
@@ -7,7 +8,7 @@ use lattice::Sides;
 use points::Frame;
 
 // What is asked for, all but the samples. Inside is below the negative of the threshold.
-#[derive(Drop)]
+#[derive(Clone, Copy)]
 pub struct Job {
     pub frame: Frame,
     pub sides: Sides,
@@ -17,14 +18,14 @@ pub struct Job {
 }
 
 // How many vertices and triangles stand in the lists.
-#[derive(Drop)]
+#[derive(Clone, Copy)]
 pub struct Stand {
     pub vertices: usize,
     pub triangles: usize,
 }
 
 // After a vertex pass and its march.
-#[derive(Drop)]
+#[derive(Clone, Copy)]
 pub struct Drawn {
     pub stand: Stand,
     pub split: usize,
@@ -32,20 +33,20 @@ pub struct Drawn {
 }
 
 // After a round: whether there was one.
-#[derive(Drop)]
+#[derive(Clone, Copy)]
 pub struct Round {
     pub more: bool,
     pub stand: Stand,
 }
 
-#[derive(Drop)]
+#[derive(Clone, Copy)]
 pub struct Rolled {
     pub stand: Stand,
     pub rounds: usize,
 }
 
 // What was made: the cases of the sites by their numbers.
-#[derive(Drop)]
+#[derive(Clone, Copy)]
 pub struct Made {
     pub stand: Stand,
     pub split: usize,

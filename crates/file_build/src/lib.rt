@@ -1,4 +1,5 @@
 // What a count file asks for: read, and built in lent lists.
+#![tactic(auto)]
 ghost use Rattle.std.specs.Prelude.{◌≡◌};
 ghost use Rattle.build.specs.Answer.{lists, lengths_of, BuildOf};
 ghost use Rattle.file_build.specs.Asked.{head_sides, point_of, head_frame, head_inside, floats_of, file_order, BuiltOf};
@@ -84,7 +85,7 @@ fn build_head(
 }
 
 // What was read of an input, and what was built of it: `answer` has status 8 and zeros where the input is no count file.
-#[derive(Drop)]
+#[derive(Clone, Copy)]
 pub struct Built {
     pub file: Parsed,
     pub answer: Answer,

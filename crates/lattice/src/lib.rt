@@ -1,5 +1,6 @@
 // The box of sites: sides, site numbers, coordinates (u, v, w) and ijk, the site across an edge, the owner of an edge.
 // A function with a `requires` is called by crates that have tested the sides at their door.
+#![tactic(auto)]
 ghost use Rattle.std.specs.Prelude.{◌≡◌, ◌+◌, ◌*◌, ◌<◌, pos, ◌-ℤ◌};
 ghost use Rattle.tables.specs.Edges.{corner_of};
 ghost use Rattle.lattice.specs.Sites.{side_ok, sides_ok, SidesFit, sites, cells, site_of, uvw_of, InBox, at_end, on_border, ijk_of};
@@ -9,21 +10,21 @@ ghost use Rattle.lattice.specs.Owner.{gap, gap_label, owner_of};
 // The largest side of a box.
 pub const LARGEST_SIDE: usize = 32;
 
-#[derive(Drop)]
+#[derive(Clone, Copy)]
 pub struct Sides {
     pub nu: usize,
     pub nv: usize,
     pub nw: usize,
 }
 
-#[derive(Drop)]
+#[derive(Clone, Copy)]
 pub struct Uvw {
     pub u: usize,
     pub v: usize,
     pub w: usize,
 }
 
-#[derive(Drop)]
+#[derive(Clone, Copy)]
 pub struct Ijk {
     pub i: i64,
     pub j: i64,
@@ -31,14 +32,14 @@ pub struct Ijk {
 }
 
 // What lies across an edge: nothing outside the box.
-#[derive(Drop)]
+#[derive(Clone, Copy)]
 pub enum OtherEnd {
     Missing,
     At(usize),
 }
 
 // Who owns the edge between two places: the owner, the other end, and the owner's label.
-#[derive(Drop)]
+#[derive(Clone, Copy)]
 pub enum EdgeOwner {
     NoEdge,
     Owned(Ijk, Ijk, usize),

@@ -1,4 +1,5 @@
 // Numbers and lines as text, read and printed: one line with its key, and runs of lines whose keys stand one after the other in one byte string.
+#![tactic(auto)]
 ghost use Rattle.std.specs.Prelude.{◌≡◌, ◌+◌, ◌*◌, ◌≤◌, ◌<◌, eqb, length, drop, get_or};
 ghost use Rattle.laws.specs.Written.{Written};
 ghost use Rattle.lines.specs.Numbers.{dec};
@@ -11,7 +12,7 @@ ghost use Rattle.lines.specs.Status.{refusal_text};
 // ---- one line
 
 // The number of a line, and where the next line starts.
-#[derive(Drop)]
+#[derive(Clone, Copy)]
 pub enum Num {
     Bad,
     Got { value: u64, next: usize },
@@ -199,7 +200,7 @@ fn line(s: &[u8], at: usize, hex: bool, key: &[u8]) -> Num
 }
 
 // Where a run ends.
-#[derive(Drop)]
+#[derive(Clone, Copy)]
 pub enum Place {
     Bad,
     At(usize),

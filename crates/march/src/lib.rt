@@ -1,5 +1,6 @@
 // The march of tetrahedra: triangles from the cases of the cells and the edge table, appended to a lent list.
 // The threshold h is a parameter of every function that asks for a side.
+#![tactic(auto)]
 ghost use Rattle.std.specs.Prelude.{◌≡◌, [], ◌∷◌, ◌+◌, ◌*◌, ◌-◌, ◌<◌, ◌≤◌, length};
 ghost use Rattle.laws.specs.Written.{Written};
 ghost use Rattle.laws.specs.Triangles.{flat};
@@ -132,7 +133,7 @@ fn march_tets(
 }
 
 // After a cell: the next free place, and the column on its right.
-#[derive(Drop)]
+#[derive(Clone, Copy)]
 pub struct Cell {
     pub next: usize,
     pub right: [usize; 4],

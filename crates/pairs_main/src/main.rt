@@ -1,4 +1,5 @@
 // The sides of a few small meshes, filled and sorted, and the flags of those whose pair is a side more than twice: each room word by word.
+#![tactic(auto)]
 ghost use Rattle.pairs.specs.Inner.Listing.{Room};
 
 use libc::STDOUT_FILENO;

@@ -1,5 +1,6 @@
 // The phases of a build and the sorted list of the sides under plain names, for the benchmark to link. This is no part of the library: the phases are inner
 // functions, and each wrapper asks of its caller what its phase asks.
+#![tactic(auto)]
 ghost use Rattle.std.specs.Prelude.{◌*◌, ◌-◌, ◌≡◌, true, ◌++◌, length, drop, replicate};
 ghost use Rattle.laws.specs.Triangles.{flat};
 ghost use Rattle.laws.specs.Written.{Written};

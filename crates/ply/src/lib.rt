@@ -1,4 +1,5 @@
 // PLY files of our kind (docs/SCOPE.md, S11), read.
+#![tactic(auto)]
 ghost use Rattle.std.specs.Prelude.{◌≡◌, ◌+◌, ◌*◌, ◌≤◌, ◌<◌, length};
 ghost use Rattle.laws.specs.Bools.{Tells};
 ghost use Rattle.laws.specs.Written.{Written};
@@ -8,7 +9,7 @@ ghost use Rattle.ply.specs.Inner.Parts.{HeadOf, words_in, face_at, faces_in, Fac
 use lines::Num;
 
 // The numbers of a header, and where the body starts.
-#[derive(Drop)]
+#[derive(Clone, Copy)]
 enum Head {
     Bad,
     Got {
@@ -94,7 +95,7 @@ fn faces_fit(s: &[u8], at: usize, n: usize, v: usize) -> bool
 }
 
 // What a file is found to be before anything is stored: its counts and where its body starts, or the number of the refusal.
-#[derive(Drop)]
+#[derive(Clone, Copy)]
 enum Found {
     Refused(usize),
     Good {
@@ -132,7 +133,7 @@ fn look(s: &[u8]) -> Found
 }
 
 // What a reader answers: 0, the vertices and the faces, or a refusal, 9, 10 or 11, and zeros.
-#[derive(Drop)]
+#[derive(Clone, Copy)]
 pub struct Counts {
     pub status: usize,
     pub vertices: usize,

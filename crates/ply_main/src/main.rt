@@ -1,5 +1,6 @@
 // Reads a count file from standard input, or from the file that its one argument names, and writes the PLY file of its mesh, or prints the line `status=`
 // where the count program would refuse.
+#![tactic(auto)]
 
 fn main() {
     let mut space = [0u8; count_file::ENOUGH];

@@ -1,4 +1,5 @@
 // PLY files of our kind (docs/SCOPE.md, S11), written.
+#![tactic(auto)]
 ghost use Rattle.std.specs.Prelude.{◌≡◌, ◌+◌, ◌*◌, ◌/◌, ◌≤◌, ◌<◌, length};
 ghost use Rattle.laws.specs.Bools.{Tells};
 ghost use Rattle.laws.specs.Written.{Written};
@@ -128,7 +129,7 @@ fn fit(n: usize, triangles: &[u32]) -> bool
 }
 
 // What a writer answers: 0 and how long the file is, or a refusal, 10 or 11, and 0.
-#[derive(Drop)]
+#[derive(Clone, Copy)]
 pub struct Wrote {
     pub status: usize,
     pub length: usize,

@@ -1,5 +1,6 @@
 // The frame, the place of a site in it, the point on an edge, the mean of points, and floats by their bits.
 // A frame is opened here and nowhere else. A function with a `requires` is called by crates that have tested the sides at their door.
+#![tactic(auto)]
 ghost use Rattle.std.specs.Prelude.{◌≡◌, ◌≤◌, ◌<◌, T};
 ghost use Rattle.std.specs.Float.{binary64};
 ghost use Rattle.std.specs.Float.Ieee.{in_float, of_bits, to_bits};
@@ -9,28 +10,28 @@ ghost use Rattle.points.specs.Limits.{origin_ok, step_ok, origins_ok, steps_ok, 
 ghost use Rattle.points.specs.EdgePoints.{interpolate, edge_point};
 ghost use Rattle.points.specs.Means.{none, more, mean_sum};
 
-#[derive(Drop)]
+#[derive(Clone, Copy)]
 pub struct Point {
     pub x: f64,
     pub y: f64,
     pub z: f64,
 }
 
-#[derive(Drop)]
+#[derive(Clone, Copy)]
 pub struct Frame {
     pub origin: Point,
     pub step: Point,
 }
 
 // The point on an edge: missing where a sample is not finite.
-#[derive(Drop)]
+#[derive(Clone, Copy)]
 pub enum EdgePoint {
     Missing,
     At(Point),
 }
 
 // Points taken in one after the other: the last one, their sum from 0.0, how many.
-#[derive(Drop)]
+#[derive(Clone, Copy)]
 pub struct Sum {
     pub last: Point,
     pub total: Point,

@@ -1,4 +1,5 @@
 // Prints the bits of places, edge points and means at generated inputs, and of edge points between samples near the threshold: its stdout is that of tools/points_reference.py.
+#![tactic(auto)]
 ghost use Rattle.std.specs.Prelude.{◌≤◌, ◌<◌};
 
 // The next number of the generator.

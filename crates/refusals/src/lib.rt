@@ -1,5 +1,6 @@
 // The door of a build: which number a request gets before anything is stored. Every size, every length and every bit pattern is taken.
 // A function with a `requires` is called here, once what it asks has been tested.
+#![tactic(auto)]
 ghost use Rattle.std.specs.Prelude.{◌≡◌, ◌*◌, ◌/◌, ◌≤◌};
 ghost use Rattle.lattice.specs.Sites.{SidesFit, cells};
 ghost use Rattle.refusals.specs.Refusals.{settings_ok, inside_ok, site_room, vertex_room, cell_room, request_of};
@@ -13,7 +14,7 @@ pub const TRIANGLE_WORDS: usize = 36;
 pub const EDGE_WORDS: usize = 108;
 
 // How long the six lent lists are.
-#[derive(Drop)]
+#[derive(Clone, Copy)]
 pub struct Lengths {
     pub masks: usize,
     pub table: usize,
@@ -24,7 +25,7 @@ pub struct Lengths {
 }
 
 // The number of a request, 0 where it is granted, and E, which is 0 where it is not.
-#[derive(Drop)]
+#[derive(Clone, Copy)]
 pub struct Reply {
     pub status: usize,
     pub crossed: usize,

@@ -1,4 +1,5 @@
 // Replays a list of inputs: reads many files from standard input, each after a line `file LENGTH`, and prints the answer to each and a line `end`.
+#![tactic(auto)]
 ghost use Rattle.std.specs.Prelude.{◌≡◌, length};
 
 use libc::{STDIN_FILENO, STDOUT_FILENO};

@@ -1,5 +1,6 @@
 // Samples: which side of the surface a value is on, whether it is finite, and where the surface crosses an edge.
 // The threshold h is a parameter of every function that asks for a side.
+#![tactic(auto)]
 ghost use Rattle.std.specs.Prelude.{◌≡◌};
 ghost use Rattle.samples.specs.Sides.{inside, finite, mark_fraction, hold, point_fraction, crossing, when_finite};
 
@@ -7,14 +8,14 @@ ghost use Rattle.samples.specs.Sides.{inside, finite, mark_fraction, hold, point
 pub const INSIDE: f64 = 1.0e-9;
 
 // What is known of a sample: missing outside the box.
-#[derive(Drop)]
+#[derive(Clone, Copy)]
 pub enum Sample {
     Missing,
     Value(f64),
 }
 
 // Where the surface crosses an edge, as a fraction of its length.
-#[derive(Drop)]
+#[derive(Clone, Copy)]
 pub enum Crossing {
     SameSide,
     At(f64),

@@ -1,12 +1,13 @@
 // A program's bytes: all of its input, from standard input or from the file that its last argument names, and its answer in one go; and the masks in lines
 // that programs print. What fails is said on standard error.
+#![tactic(auto)]
 ghost use Rattle.std.specs.Prelude.{◌≤◌, length};
 ghost use Rattle.io.specs.Counts.{IsPrefixLen};
 
 use libc::{STDERR_FILENO, STDIN_FILENO, STDOUT_FILENO};
 
 // How many bytes of fd were put at the front of a buffer, and whether that went well.
-#[derive(Drop)]
+#[derive(Clone, Copy)]
 pub struct Taken {
     pub ok: bool,
     pub length: usize,

@@ -1,5 +1,6 @@
 // The constant tables of the lattice's fourteen edges and of the march, each read by a function with an exact promise, and the neighbours of an edge, worked out.
 // Every index is the caller's to keep in range: the callers are loops over the tables' own sizes.
+#![tactic(auto)]
 ghost use Rattle.std.specs.Prelude.{◌≡◌, map, suc, ◌≤◌, ◌<◌, length, get_or, pos, ◌-ℤ◌};
 ghost use Rattle.std.specs.Int.Bits.{bit_and};
 ghost use Rattle.laws.specs.Ints.{size_of};
@@ -22,7 +23,7 @@ pub const FLAT_HOLES: usize = 36;
 
 pub const TETS: usize = 6;
 
-#[derive(Drop)]
+#[derive(Clone, Copy)]
 pub struct Delta {
     pub i: i8,
     pub j: i8,
@@ -155,7 +156,7 @@ pub fn neighbour_mask(e: usize) -> u16
     neighbours_in(e, ALL14_MASK)
 }
 
-#[derive(Drop)]
+#[derive(Clone, Copy)]
 pub struct FlatHole {
     pub edges: u16,
     pub opposite: u16,
@@ -250,7 +251,7 @@ pub fn tet_corner(tet: usize, corner: usize) -> usize
     TET_CORNERS[3 * tet + corner] as usize
 }
 
-#[derive(Drop)]
+#[derive(Clone, Copy)]
 pub struct Ends {
     pub from: usize,
     pub to: usize,

@@ -1,4 +1,5 @@
 // Prints the tables, and the owners of sample pairs of places, as the oracle prints those of the Rust.
+#![tactic(auto)]
 ghost use Rattle.std.specs.Prelude.{◌<◌, ◌≤◌};
 ghost use Rattle.tables_main.specs.Lines.{lines_in};
 
@@ -147,7 +148,7 @@ fn case_line(c: usize)
 }
 
 // The tables with a line for each entry.
-#[derive(Drop)]
+#[derive(Clone, Copy)]
 enum Table {
     Deltas,
     Reverses,

@@ -1,4 +1,5 @@
 // The topology test of a site: which of the intersections near it may share a vertex.
+#![tactic(auto)]
 ghost use Rattle.std.specs.Prelude.{◌≡◌, ◌<◌, [], ◌∷◌};
 ghost use Rattle.samples.specs.Sides.{known, is_near};
 ghost use Rattle.topology.specs.Walk.{low_bit, visits, components_of};
@@ -8,7 +9,7 @@ ghost use Rattle.topology.specs.Topology.{singles, clusters_of, topology_of, cas
 use samples::{Crossing, Sample};
 use tables::{ALL14_MASK, FLAT_HOLES};
 
-#[derive(Drop)]
+#[derive(Clone, Copy)]
 pub enum TopologyCase {
     ClosedSurface,
     MultiHole,
@@ -19,14 +20,14 @@ pub enum TopologyCase {
 }
 
 // The edges of each cluster, as masks.
-#[derive(Drop)]
+#[derive(Clone, Copy)]
 pub struct Clusters {
     pub count: usize,
     pub masks: [u16; 14],
 }
 
 // Beside the case and the clusters, how many edges the walks took from their frontiers.
-#[derive(Drop)]
+#[derive(Clone, Copy)]
 pub struct TopologyResult {
     pub case: TopologyCase,
     pub clusters: Clusters,
@@ -48,7 +49,7 @@ pub fn case_number(case: TopologyCase) -> usize
 }
 
 // The connected components of a mask, in order of their lowest edge, and how many edges were taken from the frontier to find them.
-#[derive(Drop)]
+#[derive(Clone, Copy)]
 pub struct Components {
     pub count: usize,
     pub masks: [u16; 14],
@@ -102,7 +103,7 @@ pub fn visit_total(mask: u16) -> usize
     u16::count_ones(mask & ALL14_MASK) as usize
 }
 
-#[derive(Drop)]
+#[derive(Clone, Copy)]
 pub struct TwoEdges {
     pub first: usize,
     pub second: usize,

@@ -1,5 +1,6 @@
 // Prints the case and the clusters of every 61st mask, and the edges that the walks took, with samples at the ends that a fixed generator makes.
 // The generator goes through all masks and ends in order, so that the lines are those of a run over all masks.
+#![tactic(auto)]
 use samples::Sample;
 
 const SEED: u64 = 1;

@@ -1,4 +1,5 @@
 // Coordinates in whole units: scaled, rounded to the nearest whole number, a tie to the even one, and less the origin's number.
+#![tactic(auto)]
 ghost use Rattle.std.specs.Prelude.{◌≡◌, true, false, T, pos, neg_ℤ};
 ghost use Rattle.std.proofs.Math.Option.{some};
 ghost use Rattle.std.specs.Float.Ieee as Ieee;
@@ -12,7 +13,7 @@ ghost use Rattle.units.specs.Coordinates.{coordinate_of};
 const MOST: u64 = 10000;
 
 // A whole coordinate less the origin's number, if it is at most that far.
-#[derive(Drop)]
+#[derive(Clone, Copy)]
 pub enum Coordinate {
     Far,
     At(i64),

@@ -1,4 +1,5 @@
 // The vertex pass: sites in order, clusters in order; a cluster is one vertex, or one for each of its edges where it is flagged.
+#![tactic(auto)]
 ghost use Rattle.std.specs.Prelude.{◌≡◌, ◌&&◌, ◌+◌, ◌*◌, ◌<◌, ◌≤◌, ltb, length, get_or, set, replicate};
 ghost use Rattle.laws.specs.Ranges.{each};
 ghost use Rattle.lattice.specs.Sites.{sites};
@@ -13,7 +14,7 @@ use points::Frame;
 use topology::Clusters;
 
 // Where a pass is: the next vertex, the next candidate, and the clusters split so far.
-#[derive(Drop)]
+#[derive(Clone, Copy)]
 pub struct Pass {
     pub next: usize,
     pub tried: usize,
@@ -21,7 +22,7 @@ pub struct Pass {
 }
 
 // A pass and the cases of the sites it has met, by their numbers.
-#[derive(Drop)]
+#[derive(Clone, Copy)]
 pub struct Walk {
     pub pass: Pass,
     pub cases: [usize; 6],

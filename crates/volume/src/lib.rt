@@ -1,4 +1,5 @@
 // Six times the volume that a triangle list encloses, in whole units, signed and exact. Any mesh will do, ours or another maker's.
+#![tactic(auto)]
 ghost use Rattle.std.specs.Prelude.{◌≡◌, true, ◌+◌, ◌*◌, ◌≤◌, ◌<◌, ◌+ℤ◌, ◌-ℤ◌, ◌*ℤ◌, length};
 ghost use Rattle.laws.specs.Ints.{size_of};
 ghost use Rattle.laws.specs.Triangles.{tris_of};
@@ -8,7 +9,7 @@ ghost use Rattle.volume.specs.Parts.{whole3, Sized, corner_of, term_of};
 use units::Coordinate;
 
 // The origin, in whole units.
-#[derive(Drop)]
+#[derive(Clone, Copy)]
 pub struct Whole {
     pub x: i64,
     pub y: i64,
@@ -16,21 +17,21 @@ pub struct Whole {
 }
 
 // The answer: status 0 with six times the volume, or a refusal, 10, 12 or 13, with 0.
-#[derive(Drop)]
+#[derive(Clone, Copy)]
 pub struct Volume {
     pub status: usize,
     pub six: i64,
 }
 
 // A corner of a triangle, if its coordinates are accepted.
-#[derive(Drop)]
+#[derive(Clone, Copy)]
 enum Corner {
     Out,
     In(i64, i64, i64),
 }
 
 // The determinant of a triangle, if its corners are accepted.
-#[derive(Drop)]
+#[derive(Clone, Copy)]
 enum Term {
     Missing,
     Six(i64),

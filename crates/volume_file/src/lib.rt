@@ -1,4 +1,5 @@
 // The bytes of volume_main: the words that it is given, and the volume of the mesh that a count file asks for, as text.
+#![tactic(auto)]
 ghost use Rattle.std.specs.Prelude.{◌≡◌, ◌+◌, ◌≤◌, ◌<◌, length};
 ghost use Rattle.laws.specs.Written.{Written};
 ghost use Rattle.volume_file.specs.Words.{WordsOf};
@@ -10,7 +11,7 @@ use volume::{Volume, Whole};
 // ---- the words
 
 // How many digits, and the origin, if the words are such numbers.
-#[derive(Drop)]
+#[derive(Clone, Copy)]
 pub enum Words {
     Wrong,
     Right {

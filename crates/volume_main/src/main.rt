@@ -1,6 +1,7 @@
 // The volume program: `volume_main DIGITS X Y Z [FILE]`. Reads a count file from standard input, or from the file that its fifth argument names, and prints six
 // times the volume of its surface in whole units, 10 to the power of DIGITS to one of the frame, taken from the whole origin (X, Y, Z), and the volume in decimal;
 // or the line `status=` with the count program's number, or 13 where a corner is too far from the origin.
+#![tactic(auto)]
 use volume::Whole;
 use volume_file::Words;
 
