@@ -3,8 +3,7 @@ use mathlib.Core.Path.{◌≡◌, refl}
 use mathlib.Core.Bool.{true, false, true≢false, false≢true}
 use lib.Ieee.{Float, nan, inf, fin, lt, neg, div, of_bits}
 use Rattle.samples.specs.Sides.{finite}
-use Rattle.samples.proofs.is_finite.Statement.{statement}
-use Rattle.samples.proofs.is_finite.Tie as tie
+use Rattle.samples.proofs.is_finite.Goals as goal
 
 below_top : (x : Float) → lt x (inf false) ≡ true → lt (neg (inf false)) x ≡ finite x
 unfolding lt neg finite
@@ -20,13 +19,10 @@ not-below (inf true) e = absurd (true≢false e)
 not-below (inf false) e = refl
 not-below (fin s m k) e = absurd (true≢false e)
 
-returns : tie.Need-returns
+pub returns-then-x-top : goal.returns-then-x-top
 unfolding div of_bits
-returns c = below_top c.before.args.x c.if1.true
+returns-then-x-top c = below_top c.args.x c.if-x-top.true
 
-returns-2 : tie.Need-returns-2
+pub returns-else-x-top : goal.returns-else-x-top
 unfolding div of_bits
-returns-2 c = not-below c.before.args.x c.if1.false
-
-pub is-finite-spec : {M : Type 1} → statement M
-is-finite-spec = tie.close (tie.spec returns returns-2)
+returns-else-x-top c = not-below c.args.x c.if-x-top.false
