@@ -96,6 +96,10 @@ lines_same' (f ∷ fs) (v ∷ vs) (w ∷ ws) r t (line a p) (line b q) e =
     let c = line_same f v w (lines fs vs ++ r) (lines fs ws ++ t) a b e' in
     let d = lines_same' fs vs ws r t p q c.rest in
     record { first = rw (c.first, d.first); rest = d.rest }
+lines_same' [] [] (w ∷ ws) r t _ x10 e = elim x10 [ ]
+lines_same' [] (v ∷ vs) ws r t x7 _ e = elim x7 [ ]
+lines_same' (f ∷ fs) [] ws r t x6 _ e = elim x6 [ ]
+lines_same' (f ∷ fs) (v ∷ vs) [] r t _ x10 e = elim x10 [ ]
 
 pub lines_same : {fs : List Field} {vs ws : List ℕ} (r t : List ℕ) → Fine fs vs → Fine fs ws → lines fs vs ++ r ≡ lines fs ws ++ t → Two vs ws r t
 lines_same {fs} {vs} {ws} r t p q e = lines_same' fs vs ws r t p q e
@@ -173,6 +177,8 @@ split [] f gs (w ∷ ws) (line a p) = record { front = []; back = ws; mid = w; f
 split (g ∷ fs) f gs (w ∷ ws) (line a p) =
     let i = split fs f gs ws p in
     record { front = w ∷ i.front; back = i.back; mid = i.mid; fine = line a i.fine; ok = i.ok; is = rw (i.is, append_assoc) }
+split [] f gs [] x'' = elim x'' [ ]
+split (g ∷ fs) f gs [] x3 = elim x3 [ ]
 
 pub reads_none : (s : List ℕ) (at : ℕ) → at ≤ length s → Reads (lines []) (Fine []) s at [] at
 unfolding lines

@@ -73,6 +73,8 @@ apart_no (f ∷ fs) [] vs ws r t h p q e = false≢true h
 apart_no (f ∷ fs) (g ∷ gs) (v ∷ vs) (w ∷ ws) r t h (line a p) (line b q) e =
     let e' : key_of f ++ (end_of f v ++ (lines fs vs ++ r)) ≡ key_of g ++ (end_of g w ++ (lines gs ws ++ t)) = simp (line-key, append_assoc) at e in
     splits_no (key_of f) (key_of g) (end_of f v ++ (lines fs vs ++ r)) (end_of g w ++ (lines gs ws ++ t)) h e'
+apart_no (f ∷ fs) (g ∷ gs) [] ws r t h p q e = elim p [ ]
+apart_no (f ∷ fs) (g ∷ gs) (v ∷ vs) [] r t h p q e = elim q [ ]
 
 -- ---- the bytes tell the values
 
@@ -87,6 +89,13 @@ clear_no fs (One gs hs ∷ ps) vs (This w ∷ ws) r t h p (this g q) e =
     apart_no fs gs vs w r (parts_text ps ws ++ t) (and-apart (apart fs gs) (apart fs hs) h).0 p g (e ∙ append_assoc (lines gs w) (parts_text ps ws) t)
 clear_no fs (One gs hs ∷ ps) vs (That w ∷ ws) r t h p (that g q) e =
     apart_no fs hs vs w r (parts_text ps ws ++ t) (and-apart (apart fs gs) (apart fs hs) h).1 p g (e ∙ append_assoc (lines hs w) (parts_text ps ws) t)
+clear_no fs (Must gs ∷ ps) vs [] r t h p q e = elim q [ ]
+clear_no fs (Must gs ∷ ps) vs (Left ∷ ws) r t h p q e = elim q [ ]
+clear_no fs (Must gs ∷ ps) vs (That w ∷ ws) r t h p q e = elim q [ ]
+clear_no fs (May gs ∷ ps) vs [] r t h p q e = elim q [ ]
+clear_no fs (May gs ∷ ps) vs (That w ∷ ws) r t h p q e = elim q [ ]
+clear_no fs (One gs hs ∷ ps) vs [] r t h p q e = elim q [ ]
+clear_no fs (One gs hs ∷ ps) vs (Left ∷ ws) r t h p q e = elim q [ ]
 
 -- two runs, or one, with what follows
 same-run : {fs : List Field} (c : List ℕ → Run) (ps : List Part) (vs ws : List ℕ) (vss wss : List Run) (r t : List ℕ) → Fine fs vs → Fine fs ws
@@ -117,6 +126,26 @@ parts_same (One fs gs ∷ ps) (This v ∷ vs) (That w ∷ ws) r t h (this f p) (
     absurd (apart_no fs gs v w (parts_text ps vs ++ r) (parts_text ps ws ++ t) (and-apart (apart fs gs) (told ps) h).0 f g (simp append_assoc at e))
 parts_same (One fs gs ∷ ps) (That v ∷ vs) (This w ∷ ws) r t h (that f p) (this g q) e =
     absurd (apart_no fs gs w v (parts_text ps ws ++ t) (parts_text ps vs ++ r) (and-apart (apart fs gs) (told ps) h).0 g f (simp append_assoc at (sym e)))
+parts_same [] [] (_ ∷ ws) r t h _ x14 e = elim x14 [ ]
+parts_same [] (_ ∷ vs) ws r t h x10 _ e = elim x10 [ ]
+parts_same (Must fs ∷ ps) [] ws r t h x10 _ e = elim x10 [ ]
+parts_same (Must fs ∷ ps) (Left ∷ vs) ws r t h x14 _ e = elim x14 [ ]
+parts_same (Must fs ∷ ps) (This v ∷ vs) [] r t h _ x18 e = elim x18 [ ]
+parts_same (Must fs ∷ ps) (This v ∷ vs) (Left ∷ ws) r t h _ x22 e = elim x22 [ ]
+parts_same (Must fs ∷ ps) (This v ∷ vs) (That w ∷ ws) r t h _ x23 e = elim x23 [ ]
+parts_same (Must fs ∷ ps) (That v ∷ vs) ws r t h x16 _ e = elim x16 [ ]
+parts_same (May fs ∷ ps) [] ws r t h x11 _ e = elim x11 [ ]
+parts_same (May fs ∷ ps) (Left ∷ vs) [] r t h _ x18 e = elim x18 [ ]
+parts_same (May fs ∷ ps) (Left ∷ vs) (That w ∷ ws) r t h _ x22 e = elim x22 [ ]
+parts_same (May fs ∷ ps) (This v ∷ vs) [] r t h _ x19 e = elim x19 [ ]
+parts_same (May fs ∷ ps) (This v ∷ vs) (That w ∷ ws) r t h _ x23 e = elim x23 [ ]
+parts_same (May fs ∷ ps) (That v ∷ vs) ws r t h x17 _ e = elim x17 [ ]
+parts_same (One fs gs ∷ ps) [] ws r t h x12 _ e = elim x12 [ ]
+parts_same (One fs gs ∷ ps) (Left ∷ vs) ws r t h x16 _ e = elim x16 [ ]
+parts_same (One fs gs ∷ ps) (This v ∷ vs) [] r t h _ x20 e = elim x20 [ ]
+parts_same (One fs gs ∷ ps) (This v ∷ vs) (Left ∷ ws) r t h _ x24 e = elim x24 [ ]
+parts_same (One fs gs ∷ ps) (That v ∷ vs) [] r t h _ x21 e = elim x21 [ ]
+parts_same (One fs gs ∷ ps) (That v ∷ vs) (Left ∷ ws) r t h _ x25 e = elim x25 [ ]
 
 -- the numbers of run k
 abbrev numbers : Run → List ℕ

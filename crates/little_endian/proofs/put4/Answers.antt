@@ -1,0 +1,17 @@
+-- `little_endian::put4` meets its contract. Assumes nothing.
+use Rattle.little_endian.proofs.Bytes.{put_four}
+use native.Mathlib.Omega.{arith}
+use lib.ListN.{length-set}
+use Rattle.little_endian.proofs.put4.Goals as goal
+
+pub bounds-out-at-2 : goal.bounds-out-at-2
+bounds-out-at-2 c = simp length-set (omega arith)
+
+pub bounds-out-at-3 : goal.bounds-out-at-3
+bounds-out-at-3 c = simp length-set (omega arith)
+
+pub bounds-out-at-4 : goal.bounds-out-at-4
+bounds-out-at-4 c = simp length-set (omega arith)
+
+pub returns : goal.returns
+returns c = put_four _ _ _ _ _ _ _ c.low.ensures c.low-2.ensures c.low-3.ensures c.low-4.ensures
