@@ -222,6 +222,9 @@ module _ (ps : List Part) (s : List ℕ) (at : ℕ) where
       where
         go : (ws : List Run) (rest : List ℕ) → PartsFine (Must fs ∷ ps) ws → drop at s ≡ parts_text (Must fs ∷ ps) ws ++ rest → ⊥
         go (This w ∷ ws) rest (must f g) e = after_run w ws rest q f g e
+        go [] rest x'' e = elim x'' [ ]
+        go (Left ∷ ws) rest x6 e = elim x6 [ ]
+        go (That _ ∷ ws) rest x8 e = elim x8 [ ]
 
     pub miss_given : clear fs ps ≡ true → Miss ps s mid → Miss (May fs ∷ ps) s at
     unfolding parts_text part_text
@@ -230,6 +233,8 @@ module _ (ps : List Part) (s : List ℕ) (at : ℕ) where
         go : (ws : List Run) (rest : List ℕ) → PartsFine (May fs ∷ ps) ws → drop at s ≡ parts_text (May fs ∷ ps) ws ++ rest → ⊥
         go (This w ∷ ws) rest (given f g) e = after_run w ws rest q f g e
         go (Left ∷ ws) rest (left g) e = clear_no fs ps vs ws (drop mid s) rest h p.fine g (sym p.here ∙ e)
+        go [] rest x'' e = elim x'' [ ]
+        go (That _ ∷ ws) rest x7 e = elim x7 [ ]
 
   -- a run that is not there
   module _ (fs : List Field) (p : Absent (lines fs) (Fine fs) s at) where
@@ -239,6 +244,9 @@ module _ (ps : List Part) (s : List ℕ) (at : ℕ) where
       where
         go : (ws : List Run) (rest : List ℕ) → PartsFine (Must fs ∷ ps) ws → drop at s ≡ parts_text (Must fs ∷ ps) ws ++ rest → ⊥
         go (This w ∷ ws) rest (must f g) e = p.none w (parts_text ps ws ++ rest) f (e ∙ append_assoc (lines fs w) (parts_text ps ws) rest)
+        go [] rest x'' e = elim x'' [ ]
+        go (Left ∷ ws) rest x6 e = elim x6 [ ]
+        go (That _ ∷ ws) rest x8 e = elim x8 [ ]
 
     pub miss_left : Miss ps s at → Miss (May fs ∷ ps) s at
     unfolding parts_text part_text
@@ -247,6 +255,8 @@ module _ (ps : List Part) (s : List ℕ) (at : ℕ) where
         go : (ws : List Run) (rest : List ℕ) → PartsFine (May fs ∷ ps) ws → drop at s ≡ parts_text (May fs ∷ ps) ws ++ rest → ⊥
         go (This w ∷ ws) rest (given f g) e = p.none w (parts_text ps ws ++ rest) f (e ∙ append_assoc (lines fs w) (parts_text ps ws) rest)
         go (Left ∷ ws) rest (left g) e = q.none ws rest g e
+        go [] rest x'' e = elim x'' [ ]
+        go (That _ ∷ ws) rest x7 e = elim x7 [ ]
 
     pub miss_one : (gs : List Field) → Absent (lines gs) (Fine gs) s at → Miss (One fs gs ∷ ps) s at
     unfolding parts_text part_text
@@ -255,6 +265,8 @@ module _ (ps : List Part) (s : List ℕ) (at : ℕ) where
         go : (ws : List Run) (rest : List ℕ) → PartsFine (One fs gs ∷ ps) ws → drop at s ≡ parts_text (One fs gs ∷ ps) ws ++ rest → ⊥
         go (This w ∷ ws) rest (this f g) e = p.none w (parts_text ps ws ++ rest) f (e ∙ append_assoc (lines fs w) (parts_text ps ws) rest)
         go (That w ∷ ws) rest (that f g) e = q.none w (parts_text ps ws ++ rest) f (e ∙ append_assoc (lines gs w) (parts_text ps ws) rest)
+        go [] rest x'' e = elim x'' [ ]
+        go (Left ∷ ws) rest x6 e = elim x6 [ ]
 
 -- a run of one line
 pub one-there : (f : Field) (s : List ℕ) (at : ℕ) → at ≤ length s → (v next : ℕ) → Reads (line_of f) (ok_of f) s at v next → Reads (lines (f ∷ [])) (Fine (f ∷ [])) s at (v ∷ []) next

@@ -1,6 +1,6 @@
 -- `lines::put_dec` meets its contract: the tenth first, then the last digit. Assumes nothing.
 use Rattle.std.proofs.Common.{◌≤◌, arith}
-use Rattle.lines.proofs.Printing.{put_digit, put_last, longer}
+use Rattle.lines.proofs.Printing.{put-digit, put_last, longer}
 use Rattle.lines.proofs.Decimals.{dec_some}
 use Rattle.laws.proofs.Written.{written-length}
 use Rattle.lines.proofs.+put_dec.Goals as goal
@@ -9,7 +9,7 @@ pub bounds-out-at : goal.bounds-out-at
 bounds-out-at t c = omega (arith, c.requires, dec_some c.args.n)
 
 pub returns-then-n-lt10 : goal.returns-then-n-lt10
-returns-then-n-lt10 t c = put_digit _ _ _ c.if-n-lt10.true
+returns-then-n-lt10 t c = put-digit _ _ _ c.if-n-lt10.true
 
 pub put_dec-mid-requires : goal.put_dec-mid-requires
 put_dec-mid-requires t c =

@@ -32,7 +32,7 @@ pub returns-in_default : goal.returns-in_default
 returns-in_default c =    let a = c.loop-k in
     let h : a.k < length (form_of c.args.decs c.args.n c.args.keys.now) = rw form-length c.loop-k-test.true in
     let f = row_field _ _ _ a.invariant.1 _ c.key_end-q.ensures c.args.decs c.args.n (Dec []) c.loop-k-test.true in
-    record { count = a.k; place = a.at; filled = a.invariant.0; short = h; missing = rw f (rw c.enum_told-1.given.1 at c.line.ensures) }
+    record { count = a.k; place = a.at; filled = a.invariant.0; short = h; missing = rw f (rw c.in_default.is at c.line.ensures) }
 
 pub offset_bounds-out-k : goal.offset_bounds-out-k
 offset_bounds-out-k c = omega arith
@@ -50,7 +50,7 @@ pub loop-k-preserved : goal.loop-k-preserved
 loop-k-preserved c =    let a = c.loop-k in
     let h : a.k < length (form_of c.args.decs c.args.n c.args.keys.now) = rw form-length c.loop-k-test.true in
     let g : a.k < length a.out = omega (arith, a.invariant.0.full, c.requires.1, c.loop-k-test.true) in (
-      run-turn _ _ _ _ _ _ _ a.invariant.0 (Dec []) _ h g (row_field _ _ _ a.invariant.1 _ c.key_end-q.ensures c.args.decs c.args.n (Dec []) c.loop-k-test.true) _ _ (rw c.value-1.given.1 at c.line.ensures),
+      run-turn _ _ _ _ _ _ _ a.invariant.0 (Dec []) _ h g (row_field _ _ _ a.invariant.1 _ c.key_end-q.ensures c.args.decs c.args.n (Dec []) c.loop-k-test.true) _ _ (rw c.in-Got.is at c.line.ensures),
       row-turn _ _ _ a.invariant.1 _ c.key_end-q.ensures,
     )
 
