@@ -7,7 +7,7 @@ use mathlib.Core.Bool.{Bool, true, false, not, false≢true}
 use lib.IntN.{ℤ, pos}
 use lib.Dec.{T, ltb, lit<}
 use lib.Ieee.{Float, nan, inf, fin, Format, binary32, binary64, low, up, down, round, sum, neg, add, lt, eq, le, fits, of_bits, to_bits}
-use lib.Ieee.Fits.{down_pos, round_fits}
+use lib.Ieee.Fits.{down_pos, round-fits}
 use lib.Ieee.Bits.{of_bits-to_bits}
 use lib.Ieee.Exact.{HasValue, round_exact}
 use lib.Ieee.Nearest.{div_same}
@@ -96,7 +96,7 @@ same-value f (fin t n d) s m e a b h = sym (of_bits-to_bits f (fin t n d) a) ∙
 pub self_round : (f : Format) (s : Bool) (m : ℕ) (e : ℤ) → T (fits f (fin s m e)) → round f s (m * up e) (down e) ≡ fin s m e
 self_round f s m e h =
     let u = units_of f s m e h in
-    same-value f (round f s (m * up e) (down e)) s m e (round_fits f s (m * up e) (down e)) h
+    same-value f (round f s (m * up e) (down e)) s m e (round-fits f s (m * up e) (down e)) h
     (round_exact f s (m * up e) (down e) m u.shift (down_pos e) u.small u.top u.is)
 
 -- ---- a sum is one rounding

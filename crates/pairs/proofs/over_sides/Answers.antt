@@ -24,6 +24,6 @@ returns c =    let tris = c.args.tris.now in
     let home = c.flag_home in
     let end = c.clear in
     let w : ℕ = length tris * 3 in
-    let room = listed.new.1.0 in
+    let room = listed.new.room in
     let size : length (take w room) ≡ w = length-take-le w room ((search rules)) in
     cleared tris c.requires.whole (take w room) size listed.ensures.done.perm (length c.args.room.now) (drop w room) home.new.s end.new.s c.requires.nine listed.ensures.zeros home.auto.s home.ensures end.ensures

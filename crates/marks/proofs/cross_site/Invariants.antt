@@ -1,0 +1,13 @@
+-- The invariant and the measure of each loop of `marks::cross_site`. Assumes nothing.
+use mathlib.Core.Path.{◌≡◌}
+use Prim.Native.Nat.{◌-◌, ◌≤◌}
+use Rattle.laws.specs.Bools.{bit}
+use Rattle.laws.specs.Ranges.{sum}
+use Rattle.marks.specs.Marks.{is_crossed}
+use Rattle.marks.proofs.cross_site.Given as goal
+
+abbrev pub invariant-loop-label : goal.invariant-loop-label
+invariant-loop-label l = (l.label ≤ 7) × (l.total ≡ sum l.label (λ l. bit (is_crossed l.n l.samples l.h l.s l)))
+
+abbrev pub decreases-loop-label : goal.decreases-loop-label
+decreases-loop-label l = 7 - l.label
