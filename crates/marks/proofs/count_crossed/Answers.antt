@@ -1,10 +1,11 @@
 -- `marks::count_crossed` meets its contract. Assumes nothing.
 use native.Mathlib.Omega.{arith}
 use mathlib.Core.Path.{sym, ◌∙◌}
+use lib.ListN.{length}
 use Rattle.laws.proofs.Tails.{tail_is}
 use Rattle.lattice.proofs.Sites.{layer_most}
 use Rattle.laws.proofs.Sums.{sum-none, sum-turn, sum_done, sum_room}
-use Rattle.marks.proofs.Rooms.{layer_sampled, layer_count-most, layers-count}
+use Rattle.marks.proofs.Rooms.{layer_sampled, layer_count-most, layers-count, Begins, begins}
 use Rattle.marks.proofs.count_crossed.Goals as goal
 
 pub overflow_mul-layer : goal.overflow_mul-layer
@@ -14,22 +15,22 @@ pub loop-w-init : goal.loop-w-init
 loop-w-init c = (omega arith, sym (sum-none _))
 
 pub overflow_mul-a : goal.overflow_mul-a
-overflow_mul-a c = omega (arith, turn (c))
+overflow_mul-a c = omega (arith, (let the_turn : Begins c.args.n c.loop-w.w (length c.args.samples.now) = begins c.args.n c.loop-w.w _ c.requires.fit c.loop-w-test.true c.requires.samples in the_turn))
 
 pub overflow_sub-rest : goal.overflow_sub-rest
-overflow_sub-rest c = omega (arith, turn (c))
+overflow_sub-rest c = omega (arith, (let the_turn : Begins c.args.n c.loop-w.w (length c.args.samples.now) = begins c.args.n c.loop-w.w _ c.requires.fit c.loop-w-test.true c.requires.samples in the_turn))
 
 pub offset_bounds-samples-a : goal.offset_bounds-samples-a
-offset_bounds-samples-a c = omega (arith, turn (c))
+offset_bounds-samples-a c = omega (arith, (let the_turn : Begins c.args.n c.loop-w.w (length c.args.samples.now) = begins c.args.n c.loop-w.w _ c.requires.fit c.loop-w-test.true c.requires.samples in the_turn))
 
 pub slice_bounds-cross_layer-count : goal.slice_bounds-cross_layer-count
-slice_bounds-cross_layer-count c = omega (arith, turn (c))
+slice_bounds-cross_layer-count c = omega (arith, (let the_turn : Begins c.args.n c.loop-w.w (length c.args.samples.now) = begins c.args.n c.loop-w.w _ c.requires.fit c.loop-w-test.true c.requires.samples in the_turn))
 
 pub slice_bounds-cross_layer-start : goal.slice_bounds-cross_layer-start
-slice_bounds-cross_layer-start c = omega (arith, turn (c))
+slice_bounds-cross_layer-start c = omega (arith, (let the_turn : Begins c.args.n c.loop-w.w (length c.args.samples.now) = begins c.args.n c.loop-w.w _ c.requires.fit c.loop-w-test.true c.requires.samples in the_turn))
 
 pub slice_bounds-cross_layer-end : goal.slice_bounds-cross_layer-end
-slice_bounds-cross_layer-end c = omega (arith, turn (c))
+slice_bounds-cross_layer-end c = omega (arith, (let the_turn : Begins c.args.n c.loop-w.w (length c.args.samples.now) = begins c.args.n c.loop-w.w _ c.requires.fit c.loop-w-test.true c.requires.samples in the_turn))
 
 pub cross_layer-total-requires : goal.cross_layer-total-requires
 cross_layer-total-requires c =    rw tail_is (layer_sampled c.args.n c.loop-w.w c.args.samples.now c.requires c.loop-w-test.true)

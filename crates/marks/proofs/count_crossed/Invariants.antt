@@ -7,7 +7,7 @@ use Rattle.marks.specs.Inner.Loops.{from_layer, cross_layer}
 use Rattle.marks.proofs.count_crossed.Given as goal
 
 abbrev pub invariant-loop-w : goal.invariant-loop-w
-invariant-loop-w l = (l.w ≤ l.nw) × (l.total ≡ sum l.w (λ i. cross_layer (from_layer (record { l.nu = l.nu; l.nv = l.nv; l.nw = l.nw }) i) (drop (i * (l.nu * l.nv)) l.samples) l.h))
+invariant-loop-w l = (l.w ≤ l.nw) × (l.total ≡ sum l.w (λ i. cross_layer (from_layer (record { nu = l.nu; nv = l.nv; nw = l.nw }) i) (drop (i * (l.nu * l.nv)) l.samples) l.h))
 
 abbrev pub decreases-loop-w : goal.decreases-loop-w
 decreases-loop-w l = l.nw - l.w

@@ -7,7 +7,7 @@ use Rattle.marks.specs.Marks.{is_crossed}
 use Rattle.marks.proofs.cross_site.Given as goal
 
 abbrev pub invariant-loop-label : goal.invariant-loop-label
-invariant-loop-label l = (l.label ≤ 7) × (l.total ≡ sum l.label (λ l. bit (is_crossed l.n l.samples l.h l.s l)))
+invariant-loop-label turn = (turn.label ≤ 7) × (turn.total ≡ sum turn.label (λ l. bit (is_crossed turn.n turn.samples turn.h turn.s l)))
 
 abbrev pub decreases-loop-label : goal.decreases-loop-label
 decreases-loop-label l = 7 - l.label

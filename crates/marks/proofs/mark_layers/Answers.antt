@@ -19,22 +19,28 @@ pub loop-w-init : goal.loop-w-init
 loop-w-init c = (omega arith, sym (fold-none _ _), refl)
 
 pub overflow_mul-a : goal.overflow_mul-a
-overflow_mul-a c = omega (arith, turn (c))
+overflow_mul-a c = omega (arith, (let the_turn : Begins c.args.n c.loop-w.w (length c.args.samples.now) × Begins c.args.n c.loop-w.w (length c.args.masks.now) = 
+    (begins c.args.n c.loop-w.w _ c.requires.fit c.loop-w-test.true c.requires.samples, begins c.args.n c.loop-w.w _ c.requires.fit c.loop-w-test.true c.requires.masks) in the_turn))
 
 pub overflow_sub-rest : goal.overflow_sub-rest
-overflow_sub-rest c = omega (arith, turn (c))
+overflow_sub-rest c = omega (arith, (let the_turn : Begins c.args.n c.loop-w.w (length c.args.samples.now) × Begins c.args.n c.loop-w.w (length c.args.masks.now) = 
+    (begins c.args.n c.loop-w.w _ c.requires.fit c.loop-w-test.true c.requires.samples, begins c.args.n c.loop-w.w _ c.requires.fit c.loop-w-test.true c.requires.masks) in the_turn))
 
 pub offset_bounds-samples-a : goal.offset_bounds-samples-a
-offset_bounds-samples-a c = omega (arith, turn (c))
+offset_bounds-samples-a c = omega (arith, (let the_turn : Begins c.args.n c.loop-w.w (length c.args.samples.now) × Begins c.args.n c.loop-w.w (length c.args.masks.now) = 
+    (begins c.args.n c.loop-w.w _ c.requires.fit c.loop-w-test.true c.requires.samples, begins c.args.n c.loop-w.w _ c.requires.fit c.loop-w-test.true c.requires.masks) in the_turn))
 
 pub slice_bounds-mark_layer-count : goal.slice_bounds-mark_layer-count
-slice_bounds-mark_layer-count c = omega (arith, turn (c))
+slice_bounds-mark_layer-count c = omega (arith, (let the_turn : Begins c.args.n c.loop-w.w (length c.args.samples.now) × Begins c.args.n c.loop-w.w (length c.args.masks.now) = 
+    (begins c.args.n c.loop-w.w _ c.requires.fit c.loop-w-test.true c.requires.samples, begins c.args.n c.loop-w.w _ c.requires.fit c.loop-w-test.true c.requires.masks) in the_turn))
 
 pub slice_bounds-mark_layer-start : goal.slice_bounds-mark_layer-start
-slice_bounds-mark_layer-start c = omega (arith, turn (c))
+slice_bounds-mark_layer-start c = omega (arith, (let the_turn : Begins c.args.n c.loop-w.w (length c.args.samples.now) × Begins c.args.n c.loop-w.w (length c.args.masks.now) = 
+    (begins c.args.n c.loop-w.w _ c.requires.fit c.loop-w-test.true c.requires.samples, begins c.args.n c.loop-w.w _ c.requires.fit c.loop-w-test.true c.requires.masks) in the_turn))
 
 pub slice_bounds-mark_layer-end : goal.slice_bounds-mark_layer-end
-slice_bounds-mark_layer-end c = omega (arith, turn (c))
+slice_bounds-mark_layer-end c = omega (arith, (let the_turn : Begins c.args.n c.loop-w.w (length c.args.samples.now) × Begins c.args.n c.loop-w.w (length c.args.masks.now) = 
+    (begins c.args.n c.loop-w.w _ c.requires.fit c.loop-w-test.true c.requires.samples, begins c.args.n c.loop-w.w _ c.requires.fit c.loop-w-test.true c.requires.masks) in the_turn))
 
 pub offset_bounds-masks-a : goal.offset_bounds-masks-a
 offset_bounds-masks-a c = omega (arith, (let the_turn : Begins c.args.n c.loop-w.w (length c.args.samples.now) × Begins c.args.n c.loop-w.w (length c.args.masks.now) = 
@@ -68,7 +74,7 @@ loop-w-preserved c =    let at = c.loop-w in
     let call = c.mark_layer in
     let args = c.args in
     let a = at.w * (args.n.nu * args.n.nv) in
-    let r = call.new.1.1.0 in (
+    let r = call.new.masks in (
       omega arith,
       fold-turn _ at.w _ at.masks _ at.invariant.1
           (tail_back a at.masks r ∙ ap (λ (r : List ℕ). take a at.masks ++ r) (rw (tail_is, tail_is) at call.ensures)),
