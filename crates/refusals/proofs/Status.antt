@@ -4,7 +4,7 @@ use mathlib.Core.Bool.{Bool, true, false, not, cond}
 use mathlib.Core.List.{List}
 use Prim.Native.Nat.{ℕ, suc, ◌≤◌}
 use native.Mathlib.Omega.{arith}
-use borrow.Author.Tests.{eq-eqb, ne_eqb, not-true, not_false}
+use borrow.Author.Tests.{eq-eqb, ne_eqb, not-true, not-false}
 use lib.Dec.{eqb}
 use lib.Ieee.{Float}
 use lib.ListN.{length}
@@ -42,7 +42,7 @@ most-most n S h f = omega (arith, crossed-most n S h f)
 
 -- the answer of a test that was called
 pub passed : {r b : Bool} → r ≡ b → not r ≡ false → b ≡ true
-passed {r} p q = sym p ∙ not_false r q
+passed {r} p q = sym p ∙ not-false r q
 
 pub failed : {r b : Bool} → r ≡ b → not r ≡ true → b ≡ false
 failed {r} p q = sym p ∙ not-true r q

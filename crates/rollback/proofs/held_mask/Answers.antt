@@ -8,18 +8,7 @@ use lib.Count.{count_trailing_zeros, ones_in}
 use Rattle.laws.specs.Inner.Visits.{Visiting}
 use Rattle.laws.proofs.Visits.{visit_start, low-here, low_bit_lem, off_less}
 use Rattle.rollback.proofs.Masks.{Holds, held-turn, held-end}
-use Rattle.rollback.proofs.held_mask.Tie as tie
 use Rattle.rollback.proofs.held_mask.Goals as goal
-
--- a turn, by whether vertex i holds the edge
-turn : (c : tie.After-holds invariant-loop decreases-loop) (b : Bool) → c.holds.result ≡ b
-    → let a = c.before.before.before.before.args in
-    let at = c.before.before.loop in
-    Visiting (Holds a.n a.table.now a.s a.i) 14 a.marks 0 (bit_xor at.rest (2 ^ count_trailing_zeros 16 at.rest)) (cond b (bit_or at.held (2 ^ count_trailing_zeros 16 at.rest)) at.held)
-turn c b h =
-    let a = c.before.before.before.before.args in
-    let at = c.before.before.loop in
-    held-turn a.n a.table.now a.s a.i a.marks at.rest at.held at.invariant (some c.before) b (sym h ∙ c.holds.ensures)
 
 pub loop-rest-init : goal.loop-rest-init
 loop-rest-init c = let a = c.args in visit_start (Holds a.n a.table.now a.s a.i) 14 a.marks 0
@@ -41,13 +30,23 @@ pub loop-rest-smaller-then-holds : goal.loop-rest-smaller-then-holds
 loop-rest-smaller-then-holds c = rw (let the_bit : 1 * 2 ^ count_trailing_zeros 16 c.loop-rest.rest % 65536 ≡ 2 ^ count_trailing_zeros 16 c.loop-rest.rest = low_bit_lem 16 14 c.loop-rest.rest (omega arith) (let the_some : 0 < c.loop-rest.rest = omega arith in the_some) c.loop-rest.invariant.short in the_bit) (let the_less : ones_in 14 (bit_xor c.loop-rest.rest (2 ^ count_trailing_zeros 16 c.loop-rest.rest)) < ones_in 14 c.loop-rest.rest = off_less 16 14 c.loop-rest.rest (omega arith) (let the_some : 0 < c.loop-rest.rest = omega arith in the_some) c.loop-rest.invariant.short in the_less)
 
 pub loop-rest-preserved-then-holds : goal.loop-rest-preserved-then-holds
-loop-rest-preserved-then-holds c = rw (let the_bit : 1 * 2 ^ count_trailing_zeros 16 c.loop-rest.rest % 65536 ≡ 2 ^ count_trailing_zeros 16 c.loop-rest.rest = low_bit_lem 16 14 c.loop-rest.rest (omega arith) (let the_some : 0 < c.loop-rest.rest = omega arith in the_some) c.loop-rest.invariant.short in the_bit) (turn c true c.if-holds.true)
+loop-rest-preserved-then-holds c = rw (let the_bit : 1 * 2 ^ count_trailing_zeros 16 c.loop-rest.rest % 65536 ≡ 2 ^ count_trailing_zeros 16 c.loop-rest.rest = low_bit_lem 16 14 c.loop-rest.rest (omega arith) (let the_some : 0 < c.loop-rest.rest = omega arith in the_some) c.loop-rest.invariant.short in the_bit) ((let the_turn : (b : Bool) → c.holds.result ≡ b
+    → let a = c.args in
+    let at = c.loop-rest in
+    Visiting (Holds a.n a.table.now a.s a.i) 14 a.marks 0 (bit_xor at.rest (2 ^ count_trailing_zeros 16 at.rest)) (cond b (bit_or at.held (2 ^ count_trailing_zeros 16 at.rest)) at.held) = λ b h. let a = c.args in
+    let at = c.loop-rest in
+    held-turn a.n a.table.now a.s a.i a.marks at.rest at.held at.invariant (let the_some : 0 < c.loop-rest.rest = omega arith in the_some) b (sym h ∙ c.holds.ensures) in the_turn) true c.if-holds.true)
 
 pub loop-rest-smaller : goal.loop-rest-smaller
 loop-rest-smaller c = rw (let the_bit : 1 * 2 ^ count_trailing_zeros 16 c.loop-rest.rest % 65536 ≡ 2 ^ count_trailing_zeros 16 c.loop-rest.rest = low_bit_lem 16 14 c.loop-rest.rest (omega arith) (let the_some : 0 < c.loop-rest.rest = omega arith in the_some) c.loop-rest.invariant.short in the_bit) (let the_less : ones_in 14 (bit_xor c.loop-rest.rest (2 ^ count_trailing_zeros 16 c.loop-rest.rest)) < ones_in 14 c.loop-rest.rest = off_less 16 14 c.loop-rest.rest (omega arith) (let the_some : 0 < c.loop-rest.rest = omega arith in the_some) c.loop-rest.invariant.short in the_less)
 
 pub loop-rest-preserved : goal.loop-rest-preserved
-loop-rest-preserved c = rw (let the_bit : 1 * 2 ^ count_trailing_zeros 16 c.loop-rest.rest % 65536 ≡ 2 ^ count_trailing_zeros 16 c.loop-rest.rest = low_bit_lem 16 14 c.loop-rest.rest (omega arith) (let the_some : 0 < c.loop-rest.rest = omega arith in the_some) c.loop-rest.invariant.short in the_bit) (turn c false c.if-holds.false)
+loop-rest-preserved c = rw (let the_bit : 1 * 2 ^ count_trailing_zeros 16 c.loop-rest.rest % 65536 ≡ 2 ^ count_trailing_zeros 16 c.loop-rest.rest = low_bit_lem 16 14 c.loop-rest.rest (omega arith) (let the_some : 0 < c.loop-rest.rest = omega arith in the_some) c.loop-rest.invariant.short in the_bit) ((let the_turn : (b : Bool) → c.holds.result ≡ b
+    → let a = c.args in
+    let at = c.loop-rest in
+    Visiting (Holds a.n a.table.now a.s a.i) 14 a.marks 0 (bit_xor at.rest (2 ^ count_trailing_zeros 16 at.rest)) (cond b (bit_or at.held (2 ^ count_trailing_zeros 16 at.rest)) at.held) = λ b h. let a = c.args in
+    let at = c.loop-rest in
+    held-turn a.n a.table.now a.s a.i a.marks at.rest at.held at.invariant (let the_some : 0 < c.loop-rest.rest = omega arith in the_some) b (sym h ∙ c.holds.ensures) in the_turn) false c.if-holds.false)
 
 pub returns : goal.returns
 returns c =    let a = c.args in
