@@ -7,5 +7,5 @@ use Rattle.count_file.proofs.put_counts.Goals as goal
 pub returns : goal.returns
 unfolding first_key field_of form_of
 returns c =
-    let n : length c.args.counts ≡ 11 = c.well_formed.1.1.0.1 in
+    let n : length c.args.counts ≡ 11 = c.well_formed.1.1.0.1.0.1 in
     rw n at c.put_run.ensures
