@@ -17,7 +17,7 @@ pub one_round-next-requires : goal.one_round-next-requires
 one_round-next-requires c = let g = c.loop-rounds.invariant in (g.lent, going_stood g c.requires.1)
 
 pub returns-then-not-next : goal.returns-then-not-next
-returns-then-not-next c = going_none c.loop-rounds.invariant c.one_round-next.ensures c.if-not-next.true
+returns-then-not-next c = going_none c.loop-rounds.invariant c.one_round-next.ensures (not-true _ c.if-not-next.true)
 
 pub overflow_add-rounds-in-loop-rounds : goal.overflow_add-rounds-in-loop-rounds
 overflow_add-rounds-in-loop-rounds c = omega (arith, c.requires.0.rounds, c.loop-rounds-test.true)
@@ -28,7 +28,7 @@ loop-rounds-smaller c = omega arith
 pub loop-rounds-preserved : goal.loop-rounds-preserved
 loop-rounds-preserved c =    let g = c.loop-rounds.invariant in
     let o = c.one_round-next in
-    going_turn g o.ensures c.if-not-next.false c.loop-rounds-test.true _ o.auto.table o.auto.positions o.auto.book o.auto.tris o.auto.room
+    going_turn g o.ensures (not-false _ c.if-not-next.false) c.loop-rounds-test.true _ o.auto.table o.auto.positions o.auto.book o.auto.tris o.auto.room
 
 pub returns : goal.returns
 returns c = going_done c.loop-rounds.invariant c.loop-rounds-test.false
