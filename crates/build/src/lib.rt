@@ -1,5 +1,6 @@
 // The build: the door. It refuses what can't be done, by a number, and hands a granted request with the used parts of the six lent lists to the engine.
 #![tactic(auto)]
+
 ghost use Rattle.std.specs.Prelude.{◌≡◌};
 ghost use Rattle.build.specs.Answer.{lists, refused_answer, BuildIn};
 ghost use Rattle.build.specs.Inner.Grants.{made_answer, Grantable, Grants};

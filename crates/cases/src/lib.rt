@@ -1,6 +1,7 @@
 // The cases of a tetrahedron and of a site, from the samples of the corners; and the numbers of the corners, by which the march finds its cases.
 // The threshold h is a parameter of every function that asks for a side.
 #![tactic(auto)]
+
 ghost use Rattle.std.specs.Prelude.{◌≡◌, ◌+◌, ◌<◌, ◌≤◌, length};
 ghost use Rattle.lattice.specs.Sites.{SidesFit, sites, InBox};
 ghost use Rattle.cases.specs.Cases.{case_from, corner_value, cases_at};

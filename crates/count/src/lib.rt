@@ -1,5 +1,6 @@
 // The count program's work: a count file read and built, and the bytes of the answer.
 #![tactic(auto)]
+
 ghost use Rattle.std.specs.Prelude.{◌≡◌, ◌∷◌, ◌≤◌, length};
 ghost use Rattle.laws.specs.Written.{Written};
 ghost use Rattle.build.specs.Answer.{counts_of};

@@ -1,5 +1,6 @@
 // The count file: read from bytes; and the count program's answer, printed as bytes.
 #![tactic(auto)]
+
 ghost use Rattle.std.specs.Prelude.{◌≡◌, ◌+◌, ◌≤◌, ◌<◌, length};
 ghost use Rattle.laws.specs.Written.{Written};
 ghost use Rattle.lines.specs.Lines.{lines};

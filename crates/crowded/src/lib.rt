@@ -1,5 +1,6 @@
 // Flags behind the flags of the sides: which vertices are ends of a side that is crowded, and which sites own a live cluster vertex in a triangle with such a side.
 #![tactic(auto)]
+
 ghost use Rattle.std.specs.Prelude.{◌≡◌, false, ◌||◌, ◌+◌, ◌*◌, ◌/◌, ◌<◌, min, ltb, length, get_or};
 ghost use Rattle.laws.specs.Ranges.{any, fold};
 ghost use Rattle.pairs.specs.Sides.{crowded};

@@ -1,5 +1,6 @@
 // The engine: everything after a granted request. Samples to masks, vertices and triangles, in the used parts of six lent lists.
 #![tactic(auto)]
+
 ghost use Rattle.vertex_pass.specs.Inner.Passing.{flag_of};
 ghost use Rattle.engine.specs.Engine.{work, Handed, Ran};
 ghost use Rattle.engine.specs.Inner.Standing.{Lent, Roomy, Parting, Paired, Placed, Stood, TurnedAll, SettledAll, Finished};

@@ -1,5 +1,6 @@
 // What a count file asks for: read, and built in lent lists.
 #![tactic(auto)]
+
 ghost use Rattle.std.specs.Prelude.{◌≡◌};
 ghost use Rattle.build.specs.Answer.{lists, lengths_of, BuildOf};
 ghost use Rattle.file_build.specs.Asked.{head_sides, point_of, head_frame, head_inside, floats_of, file_order, BuiltOf};

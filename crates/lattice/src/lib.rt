@@ -1,6 +1,7 @@
 // The box of sites: sides, site numbers, coordinates (u, v, w) and ijk, the site across an edge, the owner of an edge.
 // A function with a `requires` is called by crates that have tested the sides at their door.
 #![tactic(auto)]
+
 ghost use Rattle.std.specs.Prelude.{◌≡◌, ◌+◌, ◌*◌, ◌<◌, pos, ◌-ℤ◌};
 ghost use Rattle.tables.specs.Edges.{corner_of};
 ghost use Rattle.lattice.specs.Sites.{side_ok, sides_ok, SidesFit, sites, cells, site_of, uvw_of, InBox, at_end, on_border, ijk_of};

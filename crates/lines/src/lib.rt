@@ -1,5 +1,6 @@
 // Numbers and lines as text, read and printed: one line with its key, and runs of lines whose keys stand one after the other in one byte string.
 #![tactic(auto)]
+
 ghost use Rattle.std.specs.Prelude.{◌≡◌, ◌+◌, ◌*◌, ◌≤◌, ◌<◌, eqb, length, drop, get_or};
 ghost use Rattle.laws.specs.Written.{Written};
 ghost use Rattle.lines.specs.Numbers.{dec};

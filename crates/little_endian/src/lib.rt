@@ -1,5 +1,6 @@
 // Numbers as bytes, lowest byte first: stored into a lent list and read from one.
 #![tactic(auto)]
+
 ghost use Rattle.std.specs.Prelude.{◌≡◌, ◌+◌, ◌%◌, ◌≤◌, ◌<◌, length};
 ghost use Rattle.laws.specs.Written.{Written};
 ghost use Rattle.little_endian.specs.Bytes.{bytes_of, number_at};

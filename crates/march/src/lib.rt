@@ -1,6 +1,7 @@
 // The march of tetrahedra: triangles from the cases of the cells and the edge table, appended to a lent list.
 // The threshold h is a parameter of every function that asks for a side.
 #![tactic(auto)]
+
 ghost use Rattle.std.specs.Prelude.{◌≡◌, [], ◌∷◌, ◌+◌, ◌*◌, ◌-◌, ◌<◌, ◌≤◌, length};
 ghost use Rattle.laws.specs.Written.{Written};
 ghost use Rattle.laws.specs.Triangles.{flat};

@@ -1,6 +1,7 @@
 // Marks: for each owned edge whose ends are on different sides, a bit in the mask of the end that the surface is nearer to.
 // A layer's work is handed the samples and the masks from that layer's first site on, and a box that begins there.
 #![tactic(auto)]
+
 ghost use Rattle.std.specs.Prelude.{◌≡◌, ◌++◌, ◌+◌, ◌*◌, ◌<◌, ◌≤◌, length, drop};
 ghost use Rattle.lattice.specs.Sites.{InBox, sites, site_of};
 ghost use Rattle.laws.specs.Bools.{bit};

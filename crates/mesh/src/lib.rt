@@ -1,5 +1,6 @@
 // Triangle lists of any mesh, ours or another maker's: whether each corner is one of its vertices. Nothing here knows of samples or of files.
 #![tactic(auto)]
+
 ghost use Rattle.std.specs.Prelude.{◌≡◌, ◌<◌};
 ghost use Rattle.laws.specs.Bools.{Tells};
 ghost use Rattle.laws.specs.Lists.{All};

@@ -1,5 +1,6 @@
 // The bytes of ply_again_main: a PLY file that is read and written again.
 #![tactic(auto)]
+
 ghost use Rattle.ply_again.specs.Again.{AgainOf};
 
 // The file that is read, written again at the front of `out`, or the line `status=` with the number of the refusal: 9, 10, or 11 where its header is of the

@@ -1,5 +1,6 @@
 // The bytes of ply_main: the PLY file of the mesh that a count file asks for.
 #![tactic(auto)]
+
 ghost use Rattle.ply_file.specs.Text.{DrawnAt};
 
 // The PLY file for `input`, put at the front of `out`, or the line `status=` where the count program would refuse; what is returned is its length.

@@ -1,5 +1,6 @@
 // PLY files of our kind (docs/SCOPE.md, S11), written.
 #![tactic(auto)]
+
 ghost use Rattle.std.specs.Prelude.{◌≡◌, ◌+◌, ◌*◌, ◌/◌, ◌≤◌, ◌<◌, length};
 ghost use Rattle.laws.specs.Bools.{Tells};
 ghost use Rattle.laws.specs.Written.{Written};

@@ -1,6 +1,7 @@
 // The frame, the place of a site in it, the point on an edge, the mean of points, and floats by their bits.
 // A frame is opened here and nowhere else. A function with a `requires` is called by crates that have tested the sides at their door.
 #![tactic(auto)]
+
 ghost use Rattle.std.specs.Prelude.{◌≡◌, ◌≤◌, ◌<◌, T};
 ghost use Rattle.std.specs.Float.{binary64};
 ghost use Rattle.std.specs.Float.Ieee.{in_float, of_bits, to_bits};

@@ -1,6 +1,7 @@
 // The door of a build: which number a request gets before anything is stored. Every size, every length and every bit pattern is taken.
 // A function with a `requires` is called here, once what it asks has been tested.
 #![tactic(auto)]
+
 ghost use Rattle.std.specs.Prelude.{◌≡◌, ◌*◌, ◌/◌, ◌≤◌};
 ghost use Rattle.lattice.specs.Sites.{SidesFit, cells};
 ghost use Rattle.refusals.specs.Refusals.{settings_ok, inside_ok, site_room, vertex_room, cell_room, request_of};

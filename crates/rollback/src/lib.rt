@@ -1,5 +1,6 @@
 // A round of rollback: each live cluster vertex of a flagged site is retired, and each of its edges takes a vertex of its own.
 #![tactic(auto)]
+
 ghost use Rattle.std.specs.Prelude.{◌≡◌, ◌+◌, ◌*◌, ◌<◌, ◌≤◌, length};
 ghost use Rattle.lattice.specs.Sites.{SidesFit, sites};
 ghost use Rattle.site_vertices.specs.Inner.Appending.{Space};

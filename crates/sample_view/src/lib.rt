@@ -1,6 +1,7 @@
 // The sample view: the caller's samples together with the sides of the box, and the value at a site, at (u, v, w) and across an edge.
 // The lookups on a plain slice are covered; the functions over the struct are thin, and their proofs are walks by hand.
 #![tactic(auto)]
+
 ghost use Rattle.std.specs.Prelude.{◌≡◌};
 ghost use Rattle.sample_view.specs.View.{entry_at, entry_by, value_at, value_uvw, value_across};
 

@@ -1,6 +1,7 @@
 // Samples: which side of the surface a value is on, whether it is finite, and where the surface crosses an edge.
 // The threshold h is a parameter of every function that asks for a side.
 #![tactic(auto)]
+
 ghost use Rattle.std.specs.Prelude.{◌≡◌};
 ghost use Rattle.samples.specs.Sides.{inside, finite, mark_fraction, hold, point_fraction, crossing, when_finite};
 

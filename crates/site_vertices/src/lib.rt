@@ -1,5 +1,6 @@
 // Vertices of one site: the samples at its fourteen ends, the places of its edges in the edge table, and the vertex of one cluster.
 #![tactic(auto)]
+
 ghost use Rattle.std.specs.Prelude.{◌≡◌, [], ◌∷◌, ◌+◌, ◌*◌, ◌<◌, ◌≤◌, length};
 ghost use Rattle.std.proofs.lemmas.List.Edits.{sets};
 ghost use Rattle.lattice.specs.Sites.{SidesFit, sites};

@@ -1,6 +1,7 @@
 // The constant tables of the lattice's fourteen edges and of the march, each read by a function with an exact promise, and the neighbours of an edge, worked out.
 // Every index is the caller's to keep in range: the callers are loops over the tables' own sizes.
 #![tactic(auto)]
+
 ghost use Rattle.std.specs.Prelude.{◌≡◌, map, suc, ◌≤◌, ◌<◌, length, get_or, pos, ◌-ℤ◌};
 ghost use Rattle.std.specs.Int.Bits.{bit_and};
 ghost use Rattle.laws.specs.Ints.{size_of};

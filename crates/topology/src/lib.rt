@@ -1,5 +1,6 @@
 // The topology test of a site: which of the intersections near it may share a vertex.
 #![tactic(auto)]
+
 ghost use Rattle.std.specs.Prelude.{◌≡◌, ◌<◌, [], ◌∷◌};
 ghost use Rattle.samples.specs.Sides.{known, is_near};
 ghost use Rattle.topology.specs.Walk.{low_bit, visits, components_of};

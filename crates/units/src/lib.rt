@@ -1,5 +1,6 @@
 // Coordinates in whole units: scaled, rounded to the nearest whole number, a tie to the even one, and less the origin's number.
 #![tactic(auto)]
+
 ghost use Rattle.std.specs.Prelude.{◌≡◌, true, false, T, pos, neg_ℤ};
 ghost use Rattle.std.proofs.Math.Option.{some};
 ghost use Rattle.std.specs.Float.Ieee as Ieee;

@@ -1,5 +1,6 @@
 // The vertex pass: sites in order, clusters in order; a cluster is one vertex, or one for each of its edges where it is flagged.
 #![tactic(auto)]
+
 ghost use Rattle.std.specs.Prelude.{◌≡◌, ◌&&◌, ◌+◌, ◌*◌, ◌<◌, ◌≤◌, ltb, length, get_or, set, replicate};
 ghost use Rattle.laws.specs.Ranges.{each};
 ghost use Rattle.lattice.specs.Sites.{sites};

@@ -1,5 +1,6 @@
 // Six times the volume that a triangle list encloses, in whole units, signed and exact. Any mesh will do, ours or another maker's.
 #![tactic(auto)]
+
 ghost use Rattle.std.specs.Prelude.{◌≡◌, true, ◌+◌, ◌*◌, ◌≤◌, ◌<◌, ◌+ℤ◌, ◌-ℤ◌, ◌*ℤ◌, length};
 ghost use Rattle.laws.specs.Ints.{size_of};
 ghost use Rattle.laws.specs.Triangles.{tris_of};

@@ -1,5 +1,6 @@
 // The bytes of volume_main: the words that it is given, and the volume of the mesh that a count file asks for, as text.
 #![tactic(auto)]
+
 ghost use Rattle.std.specs.Prelude.{◌≡◌, ◌+◌, ◌≤◌, ◌<◌, length};
 ghost use Rattle.laws.specs.Written.{Written};
 ghost use Rattle.volume_file.specs.Words.{WordsOf};

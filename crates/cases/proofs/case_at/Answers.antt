@@ -24,7 +24,7 @@ pub bounds-codes-c : goal.bounds-codes-c
 bounds-codes-c c = corner_by c.args.t 2 _ c.requires.1 (lit< tt) c.tet_corner-c.ensures
 
 pub case_by-requires : goal.case_by-requires
-case_by-requires c =    let small = c.requires.0.small in
+case_by-requires c = let small = c.requires.0.small in
     (small 0 (lit< tt), small _ (corner_by c.args.t 0 _ c.requires.1 (lit< tt) c.tet_corner-a.ensures), small _ (corner_by c.args.t 1 _ c.requires.1 (lit< tt) c.tet_corner-b.ensures), small _ (corner_by c.args.t 2 _ c.requires.1 (lit< tt) c.tet_corner-c.ensures))
 
 pub returns : goal.returns

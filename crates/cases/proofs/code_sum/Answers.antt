@@ -33,6 +33,6 @@ loop-c-preserved c = let at = c.loop-c in
 
 pub returns : goal.returns
 unfolding code_sum
-returns c =    let at = c.loop-c in
+returns c = let at = c.loop-c in
     let e : at.c ≡ 8 = omega arith in
     at.invariant.1 ∙ ap (λ (k : ℕ). ranges.sum k (λ (i : ℕ). get_or c.args.codes.now i 0)) e

@@ -32,7 +32,7 @@ loop-c-preserved c = let at = c.loop-c in
 
 pub returns : goal.returns
 unfolding codes_of
-returns c =    let at = c.loop-c in
+returns c = let at = c.loop-c in
     let w = written-done _ at.c 8 at.invariant.1 at.invariant.0 c.loop-c-test.false in
     let e : at.c ≡ 8 = omega arith in
     written-whole w e

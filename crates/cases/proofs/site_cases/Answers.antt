@@ -24,5 +24,5 @@ pub tetrahedron_cases-requires : goal.tetrahedron_cases-requires
 tetrahedron_cases-requires c = (site_placed c.args.n c.args.samples.now c.args.p c.requires.0 c.requires.1 c.requires.2)
 
 pub returns : goal.returns
-returns c =    let a = c.args in
+returns c = let a = c.args in
     rw tail_is at c.tetrahedron_cases.ensures ∙ from_cases a.n a.samples.now a.p.w c.requires.0 c.requires.2 c.requires.1.on_w a.h a.p.u a.p.v

@@ -33,12 +33,12 @@ pub loop-t-smaller : goal.loop-t-smaller
 loop-t-smaller c = omega arith
 
 pub loop-t-preserved : goal.loop-t-preserved
-loop-t-preserved c =    let at = c.loop-t in
+loop-t-preserved c = let at = c.loop-t in
     (omega arith, written-turn _ at.t at.invariant.1 (rw (← c.case_at.ensures) (written_one at.r at.t c.case_at.result)))
 
 pub returns : goal.returns
 unfolding cases_at
-returns c =    let at = c.loop-t in
+returns c = let at = c.loop-t in
     let a = c.args in
     let w = written-done _ at.t 6 at.invariant.1 at.invariant.0 c.loop-t-test.false in
     let e : at.t ≡ 6 = omega arith in

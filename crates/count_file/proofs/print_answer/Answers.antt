@@ -7,7 +7,7 @@ use Rattle.lines.proofs.Printing.{refusal-length}
 use Rattle.count_file.proofs.print_answer.Goals as goal
 
 pub put_counts-requires : goal.put_counts-requires
-put_counts-requires c =    let p = c.put_status-next.ensures in
+put_counts-requires c = let p = c.put_status-next.ensures in
     omega (arith, c.requires, p.next, written-length p, refusal-length 0)
 
 pub returns : goal.returns

@@ -9,7 +9,7 @@ pub slice_bounds-flag_sides-end-2 : goal.slice_bounds-flag_sides-end-2
 slice_bounds-flag_sides-end-2 c = sym (length-take-le _ c.prepare.new.room ((search rules)))
 
 pub flag_sides-requires : goal.flag_sides-requires
-flag_sides-requires c =    let t = c.args.tris.now in
+flag_sides-requires c = let t = c.args.tris.now in
     let r = c.args.room.now in
     let first = c.prepare in
     let many = c.least in
@@ -19,7 +19,7 @@ flag_sides-requires c =    let t = c.args.tris.now in
     )
 
 pub returns : goal.returns
-returns c =    let t = c.args.tris.now in
+returns c = let t = c.args.tris.now in
     let r = c.args.room.now in
     let first = c.prepare in
     let many = c.least in

@@ -9,7 +9,7 @@ pub slice_bounds-flag_corners-end-2 : goal.slice_bounds-flag_corners-end-2
 slice_bounds-flag_corners-end-2 c = sym (length-take-le _ c.prepare.new.room ((search rules)))
 
 pub flag_corners-requires : goal.flag_corners-requires
-flag_corners-requires c =    let t = c.args.tris.now in
+flag_corners-requires c = let t = c.args.tris.now in
     let r = c.args.room.now in
     let first = c.prepare in
     let many = c.least in
@@ -19,7 +19,7 @@ flag_corners-requires c =    let t = c.args.tris.now in
     )
 
 pub returns : goal.returns
-returns c =    let t = c.args.tris.now in
+returns c = let t = c.args.tris.now in
     let r = c.args.room.now in
     let first = c.prepare in
     let many = c.least in

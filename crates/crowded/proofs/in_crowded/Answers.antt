@@ -20,7 +20,7 @@ unfolding next
 bounds-room-n c = omega (arith, c.next_corner-n.ensures)
 
 pub returns-then-room-n-eq1 : goal.returns-then-room-n-eq1
-returns-then-room-n-eq1 c =    let n = c.next_corner-n in
+returns-then-room-n-eq1 c = let n = c.next_corner-n in
     let m = c.next_corner-m in
     flagged_second c.args.room.now c.args.k n.result m.result n.ensures m.ensures c.if-room-k-eq1.false c.if-room-n-eq1.true
 
@@ -33,6 +33,6 @@ unfolding next
 bounds-room-m c = omega (arith, c.next_corner-n.ensures, c.next_corner-m.ensures)
 
 pub returns : goal.returns
-returns c =    let n = c.next_corner-n in
+returns c = let n = c.next_corner-n in
     let m = c.next_corner-m in
     flagged-third c.args.room.now c.args.k n.result m.result n.ensures m.ensures c.if-room-k-eq1.false c.if-room-n-eq1.false

@@ -17,6 +17,6 @@ over_sides-requires c =
     record { whole = c.requires.whole; nine = omega (arith, length-take-le u c.args.room.now h); fits = c.requires.fits }
 
 pub returns : goal.returns
-returns c =    let sides = c.over_sides in
+returns c = let sides = c.over_sides in
     let end = c.clear in
     prepared_by c.args.tris.now c.args.room.now c.args.a c.requires c.args.v c.args.m c.least.result c.least-2.result c.least.ensures sides.new.room end.new.s sides.ensures sides.auto.room c.least-2.ensures end.ensures

@@ -6,16 +6,16 @@ use mathlib.Core.Path.{refl}
 use Rattle.engine.proofs.draw.Goals as goal
 
 pub draw_box-walk-requires : goal.draw_box-walk-requires
-draw_box-walk-requires c =    let a = c.args in
+draw_box-walk-requires c = let a = c.args in
     let L = c.requires.0 in
     record { masked = (L.masked, L.table); ahead = pass_ahead a.job a.samples.now (flag_of a.flags.now) L.masked.sampled.fit c.requires.1 a.positions.now a.book.now L.positions L.book }
 
 pub march_box-triangles-requires : goal.march_box-triangles-requires
-march_box-triangles-requires c =    let L = c.requires.0 in
+march_box-triangles-requires c = let L = c.requires.0 in
     record { fit = L.masked.sampled.fit; samples = L.masked.sampled.samples; table = omega (arith, L.table, c.draw_box-walk.auto.table); room = omega (arith, L.triangles) }
 
 pub returns : goal.returns
-returns c =    let a = c.args in
+returns c = let a = c.args in
     let d = c.draw_box-walk in
     let q = flag_of a.flags.now in
     let fit = c.requires.0.masked.sampled.fit in

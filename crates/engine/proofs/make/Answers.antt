@@ -20,13 +20,13 @@ pub slice_bounds-flag_ends-end-2 : goal.slice_bounds-flag_ends-end-2
 slice_bounds-flag_ends-end-2 c = let d = c.draw-drawn in sym (length-take-le _ _ (omega (arith, first-low c.requires d.ensures, d.auto.tris)))
 
 pub flag_ends-requires : goal.flag_ends-requires
-flag_ends-requires c =    let R = c.requires in
+flag_ends-requires c = let R = c.requires in
     let e = c.cell_count-a.ensures in
     let D = c.draw-drawn.ensures in
     (first_flaggable R D e, first_fits R D e, first_under R D e)
 
 pub remake-requires : goal.remake-requires
-remake-requires c =    let R = c.requires in
+remake-requires c = let R = c.requires in
     let d = c.draw-drawn in
     let o = c.flag_ends in
     (roomy_after R d.auto.table d.auto.positions d.auto.book d.auto.tris o.auto.room, first_parting R d.ensures c.cell_count-a.ensures o.ensures.found c.if-flag_ends.true o.ensures.flags)

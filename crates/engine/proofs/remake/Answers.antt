@@ -8,7 +8,7 @@ pub draw-drawn-requires : goal.draw-drawn-requires
 draw-drawn-requires c = (c.requires.0.lists, split_paired c.requires.0 c.cell_count-a.ensures c.requires.1 refl)
 
 pub settle-rolled-requires : goal.settle-rolled-requires
-settle-rolled-requires c =    let d = c.draw-drawn in
+settle-rolled-requires c = let d = c.draw-drawn in
     (roomy_after c.requires.0 d.auto.table d.auto.positions d.auto.book d.auto.tris refl, split_stood c.requires.0 c.requires.1 c.cell_count-a.ensures refl d.ensures)
 
 pub returns : goal.returns

@@ -6,7 +6,7 @@ use mathlib.Core.Path.{ap, ◌∙◌}
 use Rattle.engine.proofs.run.Goals as goal
 
 pub make-made-requires : goal.make-made-requires
-make-made-requires c =    let a = c.args in
+make-made-requires c = let a = c.args in
     let H = c.requires in
     record {
       lists = record {
@@ -21,7 +21,7 @@ make-made-requires c =    let a = c.args in
     }
 
 pub returns : goal.returns
-returns c =    let a = c.args in
+returns c = let a = c.args in
     let z = c.make-made in
     record {
       made = finished_made a.job a.samples.now z.ensures;

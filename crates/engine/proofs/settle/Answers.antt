@@ -26,7 +26,7 @@ pub loop-rounds-smaller : goal.loop-rounds-smaller
 loop-rounds-smaller c = omega arith
 
 pub loop-rounds-preserved : goal.loop-rounds-preserved
-loop-rounds-preserved c =    let g = c.loop-rounds.invariant in
+loop-rounds-preserved c = let g = c.loop-rounds.invariant in
     let o = c.one_round-next in
     going_turn g o.ensures (not-false _ c.if-not-next.false) c.loop-rounds-test.true _ o.auto.table o.auto.positions o.auto.book o.auto.tris o.auto.room
 

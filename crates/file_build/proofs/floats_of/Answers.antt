@@ -24,11 +24,11 @@ unfolding floats_of
 loop-k-init c = (omega arith, refl, refl)
 
 pub loop-k-preserved : goal.loop-k-preserved
-loop-k-preserved c =    let at = c.loop-k in
+loop-k-preserved c = let at = c.loop-k in
     (omega arith, length-set at.r at.k c.float_of_bits.result ∙ at.invariant.1, turn at.r c.args.bits at.k _ c.loop-k-test.true at.invariant.1 c.well_formed.0.1.0.1 c.float_of_bits.ensures at.invariant.2)
 
 pub returns : goal.returns
-returns c =    let at = c.loop-k in
+returns c = let at = c.loop-k in
     let n : at.k ≡ 216 = omega arith in
     let e = rw n at at.invariant.2 in
     sym (take_all 216 at.r (omega arith)) ∙ e ∙ ap floats_of (take_all 216 c.args.bits (omega (arith, c.well_formed.0.1.0.1)))

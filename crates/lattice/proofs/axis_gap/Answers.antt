@@ -18,7 +18,7 @@ pub returns-then-a-c-2 : goal.returns-then-a-c-2
 returns-then-a-c-2 c = (gap-two c.args.a c.args.b (let the_up : Below c.args.a c.args.b = read-less c.args.a c.args.b c.ranges.a c.ranges.b c.if-a-b-2.true in the_up) (read-two c.args.a c.args.b c.ranges.a c.ranges.b (let the_up : Below c.args.a c.args.b = read-less c.args.a c.args.b c.ranges.a c.ranges.b c.if-a-b-2.true in the_up) c.if-a-c.false c.if-a-c-2.true)).0
 
 pub returns-then-a-b-2 : goal.returns-then-a-b-2
-returns-then-a-b-2 c =    (gap_far c.args.a c.args.b (let the_up : Below c.args.a c.args.b = read-less c.args.a c.args.b c.ranges.a c.ranges.b c.if-a-b-2.true in the_up) (not-one c.args.a c.args.b c.ranges.a c.ranges.b (let the_up : Below c.args.a c.args.b = read-less c.args.a c.args.b c.ranges.a c.ranges.b c.if-a-b-2.true in the_up) c.if-a-c.false)
+returns-then-a-b-2 c = (gap_far c.args.a c.args.b (let the_up : Below c.args.a c.args.b = read-less c.args.a c.args.b c.ranges.a c.ranges.b c.if-a-b-2.true in the_up) (not-one c.args.a c.args.b c.ranges.a c.ranges.b (let the_up : Below c.args.a c.args.b = read-less c.args.a c.args.b c.ranges.a c.ranges.b c.if-a-b-2.true in the_up) c.if-a-c.false)
     (not-two c.args.a c.args.b c.ranges.a c.ranges.b (let the_up : Below c.args.a c.args.b = read-less c.args.a c.args.b c.ranges.a c.ranges.b c.if-a-b-2.true in the_up) c.if-a-c.false c.if-a-c-2.false)).0
 
 pub overflow_sub-c-2 : goal.overflow_sub-c-2
@@ -34,5 +34,5 @@ pub returns-then-b-c-2 : goal.returns-then-b-c-2
 returns-then-b-c-2 c = (gap-two c.args.b c.args.a (let the_down : Below c.args.b c.args.a = read-not-less c.args.a c.args.b c.ranges.a c.ranges.b c.if-a-b-2.false c.if-a-b.false in the_down) (read-two c.args.b c.args.a c.ranges.b c.ranges.a (let the_down : Below c.args.b c.args.a = read-not-less c.args.a c.args.b c.ranges.a c.ranges.b c.if-a-b-2.false c.if-a-b.false in the_down) c.if-b-c.false c.if-b-c-2.true)).1
 
 pub returns : goal.returns
-returns c =    (gap_far c.args.b c.args.a (let the_down : Below c.args.b c.args.a = read-not-less c.args.a c.args.b c.ranges.a c.ranges.b c.if-a-b-2.false c.if-a-b.false in the_down) (not-one c.args.b c.args.a c.ranges.b c.ranges.a (let the_down : Below c.args.b c.args.a = read-not-less c.args.a c.args.b c.ranges.a c.ranges.b c.if-a-b-2.false c.if-a-b.false in the_down) c.if-b-c.false)
+returns c = (gap_far c.args.b c.args.a (let the_down : Below c.args.b c.args.a = read-not-less c.args.a c.args.b c.ranges.a c.ranges.b c.if-a-b-2.false c.if-a-b.false in the_down) (not-one c.args.b c.args.a c.ranges.b c.ranges.a (let the_down : Below c.args.b c.args.a = read-not-less c.args.a c.args.b c.ranges.a c.ranges.b c.if-a-b-2.false c.if-a-b.false in the_down) c.if-b-c.false)
     (not-two c.args.b c.args.a c.ranges.b c.ranges.a (let the_down : Below c.args.b c.args.a = read-not-less c.args.a c.args.b c.ranges.a c.ranges.b c.if-a-b-2.false c.if-a-b.false in the_down) c.if-b-c.false c.if-b-c-2.false)).1

@@ -15,6 +15,6 @@ pub returns-then-b-gt57 : goal.returns-then-b-gt57
 returns-then-b-gt57 c = no_digit _ _ c.if-s-from.false (λ d. omega (arith, d.high, c.if-b-gt57.true))
 
 pub dec_more-requires : goal.dec_more-requires
-dec_more-requires c =    let b : 48 ≤ get_or c.args.s.now c.args.from 0 = c.if-b-lt48.false in
+dec_more-requires c = let b : 48 ≤ get_or c.args.s.now c.args.from 0 = c.if-b-lt48.false in
     let b' : get_or c.args.s.now c.args.from 0 ≤ 57 = c.if-b-gt57.false in
     (c.if-s-from.false, omega (arith, c.wide.ensures), omega (arith, c.wide.ensures))

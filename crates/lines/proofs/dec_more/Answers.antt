@@ -45,7 +45,7 @@ pub loop-i-smaller : goal.loop-i-smaller
 loop-i-smaller c = omega arith
 
 pub loop-i-preserved : goal.loop-i-preserved
-loop-i-preserved c =    let b : 48 ≤ get_or c.args.s.now c.loop-i.i 0 = c.if-b-lt48.false in
+loop-i-preserved c = let b : 48 ≤ get_or c.args.s.now c.loop-i.i 0 = c.if-b-lt48.false in
     let b' : get_or c.args.s.now c.loop-i.i 0 ≤ 57 = c.if-b-gt57.false in
     turn _ _ _ _ c.loop-i.invariant c.loop-i-test.true c.wide.result (omega (arith, c.wide.ensures)) (omega (arith, c.wide.ensures)) c.if-n-eq0.false c.if-n-ge100000000.false
 

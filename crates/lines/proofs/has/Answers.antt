@@ -13,7 +13,7 @@ pub overflow_sub-s : goal.overflow_sub-s
 overflow_sub-s c = omega arith
 
 pub returns-then-s-at : goal.returns-then-s-at
-returns-then-s-at c =    let a = c.args in let i = c.loop-i.i in
+returns-then-s-at c = let a = c.args in let i = c.loop-i.i in
     sym (c.loop-i.invariant.2 ∙ starts-end a.key.now a.s.now i c.loop-i-test.true (a.at + i) (omega arith))
 
 pub overflow_add-at : goal.overflow_add-at
@@ -26,7 +26,7 @@ pub bounds-key-i : goal.bounds-key-i
 bounds-key-i c = omega arith
 
 pub returns-then-s-at-2 : goal.returns-then-s-at-2
-returns-then-s-at-2 c =    let a = c.args in let i = c.loop-i.i in
+returns-then-s-at-2 c = let a = c.args in let i = c.loop-i.i in
     sym (c.loop-i.invariant.2 ∙ starts_differ a.key.now a.s.now i c.loop-i-test.true (a.at + i) (omega arith) c.if-s-at-2.true)
 
 pub overflow_add-i : goal.overflow_add-i
@@ -36,7 +36,7 @@ pub loop-i-smaller : goal.loop-i-smaller
 loop-i-smaller c = omega arith
 
 pub loop-i-preserved : goal.loop-i-preserved
-loop-i-preserved c =    let a = c.args in let i = c.loop-i.i in
+loop-i-preserved c = let a = c.args in let i = c.loop-i.i in
     let e = starts-same a.key.now a.s.now i c.loop-i-test.true (a.at + i) (omega arith) c.if-s-at-2.false in
     (omega arith, omega arith, c.loop-i.invariant.2 ∙ (rw (add_assoc a.at i 1) at e))
 

@@ -27,16 +27,22 @@ pub returns-then-d-eq16 : goal.returns-then-d-eq16
 returns-then-d-eq16 c = let at = c.loop-k in bad-digit _ _ _ _ at.invariant (omega arith) c.loop-k-test.true (sym c.hex_value-d.ensures ∙ c.if-d-eq16.true)
 
 pub overflow_mul-n : goal.overflow_mul-n
-overflow_mul-n c = omega (arith, (let the_word : c.loop-k.n * 16 + c.hex_value-d.result < 2 ^ 64 = let at = c.loop-k in
-    let a = c.args in
-    let d : c.hex_value-d.result < 16 = omega (arith, c.hex_value-d.ensures, val_le (get_or a.s.now (a.from + at.k) 0), c.if-d-eq16.false) in
-    small_word (suc at.k) _ (omega arith) (fits at.k at.n c.hex_value-d.result at.invariant.small d) in the_word))
+overflow_mul-n c = omega (
+  arith,
+  (let the_word : c.loop-k.n * 16 + c.hex_value-d.result < 2 ^ 64 = let at = c.loop-k in
+      let a = c.args in
+      let d : c.hex_value-d.result < 16 = omega (arith, c.hex_value-d.ensures, val_le (get_or a.s.now (a.from + at.k) 0), c.if-d-eq16.false) in
+      small_word (suc at.k) _ (omega arith) (fits at.k at.n c.hex_value-d.result at.invariant.small d) in the_word),
+)
 
 pub overflow_add-n : goal.overflow_add-n
-overflow_add-n c = omega (arith, (let the_word : c.loop-k.n * 16 + c.hex_value-d.result < 2 ^ 64 = let at = c.loop-k in
-    let a = c.args in
-    let d : c.hex_value-d.result < 16 = omega (arith, c.hex_value-d.ensures, val_le (get_or a.s.now (a.from + at.k) 0), c.if-d-eq16.false) in
-    small_word (suc at.k) _ (omega arith) (fits at.k at.n c.hex_value-d.result at.invariant.small d) in the_word))
+overflow_add-n c = omega (
+  arith,
+  (let the_word : c.loop-k.n * 16 + c.hex_value-d.result < 2 ^ 64 = let at = c.loop-k in
+      let a = c.args in
+      let d : c.hex_value-d.result < 16 = omega (arith, c.hex_value-d.ensures, val_le (get_or a.s.now (a.from + at.k) 0), c.if-d-eq16.false) in
+      small_word (suc at.k) _ (omega arith) (fits at.k at.n c.hex_value-d.result at.invariant.small d) in the_word),
+)
 
 pub overflow_add-k : goal.overflow_add-k
 overflow_add-k c = omega arith
@@ -54,9 +60,9 @@ pub overflow_add-result : goal.overflow_add-result
 overflow_add-result c = omega arith
 
 pub returns-then-ends : goal.returns-then-ends
-returns-then-ends c =    let at = c.loop-k in
+returns-then-ends c = let at = c.loop-k in
     got _ _ _ _ at.invariant (omega arith) (omega arith) (eqb-true _ _ (sym c.ends.ensures ∙ c.if-ends.true))
 
 pub returns : goal.returns
-returns c =    let at = c.loop-k in
+returns c = let at = c.loop-k in
     bad-end _ _ _ _ at.invariant (omega arith) (omega arith) (eqb-false _ _ (sym c.ends.ensures ∙ c.if-ends.false))

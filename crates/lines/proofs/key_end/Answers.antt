@@ -16,7 +16,7 @@ pub overflow_add-result : goal.overflow_add-result
 overflow_add-result c = omega arith
 
 pub returns-then-keys-i-eq61 : goal.returns-then-keys-i-eq61
-returns-then-keys-i-eq61 c =    let l = c.args.keys.now in
+returns-then-keys-i-eq61 c = let l = c.args.keys.now in
     omega (arith, c.loop-i.invariant.1, key_last l c.loop-i.i c.loop-i-test.true c.if-keys-i-eq61.true)
 
 pub overflow_add-i : goal.overflow_add-i
@@ -26,11 +26,11 @@ pub loop-i-smaller : goal.loop-i-smaller
 loop-i-smaller c = omega arith
 
 pub loop-i-preserved : goal.loop-i-preserved
-loop-i-preserved c =    let l = c.args.keys.now in
+loop-i-preserved c = let l = c.args.keys.now in
     (omega arith, omega (arith, c.loop-i.invariant.1, key-on l c.loop-i.i c.loop-i-test.true c.if-keys-i-eq61.false))
 
 pub returns : goal.returns
-returns c =    let at = c.loop-i in
+returns c = let at = c.loop-i in
     let l = c.args.keys.now in
     let e : at.i ≡ length l = le_antisymm at.invariant.0 c.loop-i-test.false in
     omega (arith, rw e at at.invariant.1, key-none l, e)

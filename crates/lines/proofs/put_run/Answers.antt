@@ -27,7 +27,7 @@ pub bounds-vals-k : goal.bounds-vals-k
 bounds-vals-k c = c.loop-k-test.true
 
 pub put_line-next-requires : goal.put_line-next-requires
-put_line-next-requires c =    put_fits _ _ _ _ _ _ _ _ c.loop-k.invariant c.loop-k-test.true _ c.key_end-q.ensures _
+put_line-next-requires c = put_fits _ _ _ _ _ _ _ _ c.loop-k.invariant c.loop-k-test.true _ c.key_end-q.ensures _
 
 pub overflow_add-k : goal.overflow_add-k
 overflow_add-k c = omega arith
@@ -36,7 +36,7 @@ pub loop-k-smaller : goal.loop-k-smaller
 loop-k-smaller c = omega arith
 
 pub loop-k-preserved : goal.loop-k-preserved
-loop-k-preserved c =    put-turn _ _ _ _ _ _ _ _ c.loop-k.invariant c.loop-k-test.true _ c.key_end-q.ensures _ _ c.put_line-next.ensures
+loop-k-preserved c = put-turn _ _ _ _ _ _ _ _ c.loop-k.invariant c.loop-k-test.true _ c.key_end-q.ensures _ _ c.put_line-next.ensures
 
 pub shape_of-out : goal.shape_of-out
 shape_of-out c = written-length c.loop-k.invariant.written

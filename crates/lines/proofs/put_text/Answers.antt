@@ -24,7 +24,7 @@ pub loop-k-smaller : goal.loop-k-smaller
 loop-k-smaller c = omega arith
 
 pub loop-k-preserved : goal.loop-k-preserved
-loop-k-preserved c =    let at = c.loop-k in
+loop-k-preserved c = let at = c.loop-k in
     (omega arith, copy_turn 0 _ _ _ _ _ c.loop-k-test.true at.invariant.1, rw length-set at.invariant.2)
 
 pub overflow_add-result : goal.overflow_add-result

@@ -29,7 +29,7 @@ pub line-requires : goal.line-requires
 line-requires c = c.loop-k.invariant.0.reads.within
 
 pub returns-in_default : goal.returns-in_default
-returns-in_default c =    let a = c.loop-k in
+returns-in_default c = let a = c.loop-k in
     let h : a.k < length (form_of c.args.decs c.args.n c.args.keys.now) = rw form-length c.loop-k-test.true in
     let f = row_field _ _ _ a.invariant.1 _ c.key_end-q.ensures c.args.decs c.args.n (Dec []) c.loop-k-test.true in
     record { count = a.k; place = a.at; filled = a.invariant.0; short = h; missing = rw f (rw c.in_default.is at c.line.ensures) }
@@ -47,7 +47,7 @@ pub loop-k-smaller : goal.loop-k-smaller
 loop-k-smaller c = omega arith
 
 pub loop-k-preserved : goal.loop-k-preserved
-loop-k-preserved c =    let a = c.loop-k in
+loop-k-preserved c = let a = c.loop-k in
     let h : a.k < length (form_of c.args.decs c.args.n c.args.keys.now) = rw form-length c.loop-k-test.true in
     let g : a.k < length a.out = omega (arith, a.invariant.0.full, c.requires.1, c.loop-k-test.true) in (
       run-turn _ _ _ _ _ _ _ a.invariant.0 (Dec []) _ h g (row_field _ _ _ a.invariant.1 _ c.key_end-q.ensures c.args.decs c.args.n (Dec []) c.loop-k-test.true) _ _ (rw c.in-Got.is at c.line.ensures),
@@ -55,7 +55,7 @@ loop-k-preserved c =    let a = c.loop-k in
     )
 
 pub returns : goal.returns
-returns c =    let a = c.loop-k in
+returns c = let a = c.loop-k in
     let s = c.args in
     let m = form-length s.decs s.n s.keys.now in
     let e : a.k ≡ s.n = omega (arith, a.invariant.0.some, m, c.loop-k-test.false) in

@@ -22,4 +22,4 @@ pub overflow_add-result-3 : goal.overflow_add-result-3
 overflow_add-result-3 c = omega arith
 
 pub returns : goal.returns
-returns c =    omega (arith, number-four c.args.s.now c.args.at c.requires)
+returns c = omega (arith, number-four c.args.s.now c.args.at c.requires)

@@ -21,12 +21,12 @@ pub overflow_add-i-2 : goal.overflow_add-i-2
 overflow_add-i-2 c = omega (arith, (let the_room : CellRoom c.args.n c.args.u c.args.v = cell_room_lem c.args.n c.args.s.now c.args.edges.now c.args.u c.args.v c.requires.lent.0 c.requires.lent.2 in the_room))
 
 pub column-right-requires : goal.column-right-requires
-column-right-requires c =    let a = c.args in
+column-right-requires c = let a = c.args in
     let p = c.requires.lent.0 in
     omega (arith, right-room a.n a.s.now p.fit p.two p.samples a.u a.v c.requires.lent.1 c.requires.lent.2)
 
 pub join-codes-requires : goal.join-codes-requires
-join-codes-requires c =    let a = c.args in
+join-codes-requires c = let a = c.args in
     let p = c.requires.lent.0 in
     let col = c.column-right in
     both-four a.n a.s.now p.fit p.two p.samples a.u a.v c.requires.lent.1 c.requires.lent.2 a.h a.left.now col.result c.requires.at_in_bounds.1 col.ensures
@@ -39,39 +39,57 @@ code_sum-sum-requires c = (let the_coded : Coded c.join-codes.result = let a = c
     cell_codes a.n a.s.now p.fit p.two p.samples a.u a.v c.requires.lent.1 c.requires.lent.2 a.h a.left.now col.result c.requires.at_in_bounds.1 col.ensures c.join-codes.result c.join-codes.ensures in the_codes) (codes_coded a.n a.s.now a.h a.u a.v) in the_coded)
 
 pub returns-then-sum-eq0 : goal.returns-then-sum-eq0
-returns-then-sum-eq0 c =    let a = c.args in
-    record { written = outside-written a.n a.s.now a.h a.edges.now c.requires.lent.0 a.u a.v a.tris.now a.at (ap code_sum (sym (let the_codes : let a = c.args in c.join-codes.result ≡ codes_of a.n a.s.now a.h a.u a.v = let col = c.column-right in
-    let a = c.args in
-    let p = c.requires.lent.0 in
-    cell_codes a.n a.s.now p.fit p.two p.samples a.u a.v c.requires.lent.1 c.requires.lent.2 a.h a.left.now col.result c.requires.at_in_bounds.1 col.ensures c.join-codes.result c.join-codes.ensures in the_codes)) ∙ sym c.code_sum-sum.ensures ∙ c.if-sum-eq0.true); right_value = (let the_right : let a = c.args in c.column-right.result ≡ column_of a.n a.s.now a.h (a.u + 1) a.v = 
-    let a = c.args in
-    let p = c.requires.lent.0 in
-    right_is a.n a.s.now p.fit p.two p.samples a.u a.v c.requires.lent.1 c.requires.lent.2 a.h a.left.now c.column-right.result c.requires.at_in_bounds.1 c.column-right.ensures in the_right) }
+returns-then-sum-eq0 c = let a = c.args in
+    record {
+      written = outside-written a.n a.s.now a.h a.edges.now c.requires.lent.0 a.u a.v a.tris.now a.at (ap code_sum (sym (let the_codes : let a = c.args in c.join-codes.result ≡ codes_of a.n a.s.now a.h a.u a.v = let col = c.column-right in
+          let a = c.args in
+          let p = c.requires.lent.0 in
+          cell_codes a.n a.s.now p.fit p.two p.samples a.u a.v c.requires.lent.1 c.requires.lent.2 a.h a.left.now col.result c.requires.at_in_bounds.1 col.ensures c.join-codes.result c.join-codes.ensures in the_codes)) ∙ sym c.code_sum-sum.ensures ∙ c.if-sum-eq0.true);
+      right_value = (let the_right : let a = c.args in c.column-right.result ≡ column_of a.n a.s.now a.h (a.u + 1) a.v =
+          let a = c.args in
+          let p = c.requires.lent.0 in
+          right_is a.n a.s.now p.fit p.two p.samples a.u a.v c.requires.lent.1 c.requires.lent.2 a.h a.left.now c.column-right.result c.requires.at_in_bounds.1 c.column-right.ensures in the_right);
+    }
 
 pub returns-then-sum-eq8 : goal.returns-then-sum-eq8
-returns-then-sum-eq8 c =    let a = c.args in
-    record { written = inside-written a.n a.s.now a.h a.edges.now c.requires.lent.0 a.u a.v a.tris.now a.at (ap code_sum (sym (let the_codes : let a = c.args in c.join-codes.result ≡ codes_of a.n a.s.now a.h a.u a.v = let col = c.column-right in
-    let a = c.args in
-    let p = c.requires.lent.0 in
-    cell_codes a.n a.s.now p.fit p.two p.samples a.u a.v c.requires.lent.1 c.requires.lent.2 a.h a.left.now col.result c.requires.at_in_bounds.1 col.ensures c.join-codes.result c.join-codes.ensures in the_codes)) ∙ sym c.code_sum-sum.ensures ∙ c.if-sum-eq8.true); right_value = (let the_right : let a = c.args in c.column-right.result ≡ column_of a.n a.s.now a.h (a.u + 1) a.v = 
-    let a = c.args in
-    let p = c.requires.lent.0 in
-    right_is a.n a.s.now p.fit p.two p.samples a.u a.v c.requires.lent.1 c.requires.lent.2 a.h a.left.now c.column-right.result c.requires.at_in_bounds.1 c.column-right.ensures in the_right) }
+returns-then-sum-eq8 c = let a = c.args in
+    record {
+      written = inside-written a.n a.s.now a.h a.edges.now c.requires.lent.0 a.u a.v a.tris.now a.at (ap code_sum (sym (let the_codes : let a = c.args in c.join-codes.result ≡ codes_of a.n a.s.now a.h a.u a.v = let col = c.column-right in
+          let a = c.args in
+          let p = c.requires.lent.0 in
+          cell_codes a.n a.s.now p.fit p.two p.samples a.u a.v c.requires.lent.1 c.requires.lent.2 a.h a.left.now col.result c.requires.at_in_bounds.1 col.ensures c.join-codes.result c.join-codes.ensures in the_codes)) ∙ sym c.code_sum-sum.ensures ∙ c.if-sum-eq8.true);
+      right_value = (let the_right : let a = c.args in c.column-right.result ≡ column_of a.n a.s.now a.h (a.u + 1) a.v =
+          let a = c.args in
+          let p = c.requires.lent.0 in
+          right_is a.n a.s.now p.fit p.two p.samples a.u a.v c.requires.lent.1 c.requires.lent.2 a.h a.left.now c.column-right.result c.requires.at_in_bounds.1 c.column-right.ensures in the_right);
+    }
 
 pub march_tets-next-requires : goal.march_tets-next-requires
-march_tets-next-requires c =    let a = c.args in
-    record { in_table = (cell_in a.n a.s.now a.edges.now a.u a.v c.requires.lent.0 c.requires.lent.1 c.requires.lent.2, (let the_coded : Coded c.join-codes.result = let a = c.args in
-    rw (let the_codes : let a = c.args in c.join-codes.result ≡ codes_of a.n a.s.now a.h a.u a.v = let col = c.column-right in
-    let a = c.args in
-    let p = c.requires.lent.0 in
-    cell_codes a.n a.s.now p.fit p.two p.samples a.u a.v c.requires.lent.1 c.requires.lent.2 a.h a.left.now col.result c.requires.at_in_bounds.1 col.ensures c.join-codes.result c.join-codes.ensures in the_codes) (codes_coded a.n a.s.now a.h a.u a.v) in the_coded)); at_in_bounds = c.requires.at_in_bounds.0 }
+march_tets-next-requires c = let a = c.args in
+    record {
+      in_table = (
+        cell_in a.n a.s.now a.edges.now a.u a.v c.requires.lent.0 c.requires.lent.1 c.requires.lent.2,
+        (let the_coded : Coded c.join-codes.result = let a = c.args in
+            rw (let the_codes : let a = c.args in c.join-codes.result ≡ codes_of a.n a.s.now a.h a.u a.v = let col = c.column-right in
+            let a = c.args in
+            let p = c.requires.lent.0 in
+            cell_codes a.n a.s.now p.fit p.two p.samples a.u a.v c.requires.lent.1 c.requires.lent.2 a.h a.left.now col.result c.requires.at_in_bounds.1 col.ensures c.join-codes.result c.join-codes.ensures in the_codes) (codes_coded a.n a.s.now a.h a.u a.v) in the_coded),
+      );
+      at_in_bounds = c.requires.at_in_bounds.0;
+    }
 
 pub returns : goal.returns
-returns c =    let a = c.args in
-    record { written = rw (← cell_tris_lem a.n a.s.now a.h a.edges.now c.requires.lent.0 a.u a.v, ← (let the_codes : let a = c.args in c.join-codes.result ≡ codes_of a.n a.s.now a.h a.u a.v = let col = c.column-right in
-    let a = c.args in
-    let p = c.requires.lent.0 in
-    cell_codes a.n a.s.now p.fit p.two p.samples a.u a.v c.requires.lent.1 c.requires.lent.2 a.h a.left.now col.result c.requires.at_in_bounds.1 col.ensures c.join-codes.result c.join-codes.ensures in the_codes)) c.march_tets-next.ensures; right_value = (let the_right : let a = c.args in c.column-right.result ≡ column_of a.n a.s.now a.h (a.u + 1) a.v = 
-    let a = c.args in
-    let p = c.requires.lent.0 in
-    right_is a.n a.s.now p.fit p.two p.samples a.u a.v c.requires.lent.1 c.requires.lent.2 a.h a.left.now c.column-right.result c.requires.at_in_bounds.1 c.column-right.ensures in the_right) }
+returns c = let a = c.args in
+    record {
+      written = rw (
+        ← cell_tris_lem a.n a.s.now a.h a.edges.now c.requires.lent.0 a.u a.v,
+        ← (let the_codes : let a = c.args in c.join-codes.result ≡ codes_of a.n a.s.now a.h a.u a.v = let col = c.column-right in
+            let a = c.args in
+            let p = c.requires.lent.0 in
+            cell_codes a.n a.s.now p.fit p.two p.samples a.u a.v c.requires.lent.1 c.requires.lent.2 a.h a.left.now col.result c.requires.at_in_bounds.1 col.ensures c.join-codes.result c.join-codes.ensures in the_codes),
+      ) c.march_tets-next.ensures;
+      right_value = (let the_right : let a = c.args in c.column-right.result ≡ column_of a.n a.s.now a.h (a.u + 1) a.v =
+          let a = c.args in
+          let p = c.requires.lent.0 in
+          right_is a.n a.s.now p.fit p.two p.samples a.u a.v c.requires.lent.1 c.requires.lent.2 a.h a.left.now c.column-right.result c.requires.at_in_bounds.1 c.column-right.ensures in the_right);
+    }

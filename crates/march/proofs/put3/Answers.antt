@@ -13,6 +13,6 @@ pub bounds-tris-n-3 : goal.bounds-tris-n-3
 bounds-tris-n-3 c = simp length-set (omega arith)
 
 pub returns : goal.returns
-returns c =    let n = c.args.n in
+returns c = let n = c.args.n in
     let two : n + 2 ≡ suc (suc n) = omega arith in
     record { buf = rw (add-one, two); next = refl }

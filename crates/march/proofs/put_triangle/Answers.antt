@@ -9,4 +9,4 @@ returns-then-repeats c = rw (← c.repeats.ensures, c.if-repeats.true) (written_
 
 pub returns : goal.returns
 unfolding unless_twice
-returns c =    rw (← c.repeats.ensures, c.if-repeats.false) c.put3.ensures
+returns c = rw (← c.repeats.ensures, c.if-repeats.false) c.put3.ensures

@@ -25,10 +25,10 @@ pub loop-i-smaller : goal.loop-i-smaller
 loop-i-smaller c = omega arith
 
 pub loop-i-preserved : goal.loop-i-preserved
-loop-i-preserved c =    let at = c.loop-i in
+loop-i-preserved c = let at = c.loop-i in
     let d = c.args.masks.now in
     (omega arith, ap (λ (l : List ℕ). set l at.i 0) at.invariant.1 ∙ fill_more at.i 0 d (omega arith), simp length-set at.invariant.2)
 
 pub returns : goal.returns
-returns c =    let at = c.loop-i in
+returns c = let at = c.loop-i in
     at.invariant.1 ∙ ap (λ (j : ℕ). zeroed j c.args.masks.now) (le_antisymm at.invariant.0 c.loop-i-test.false)

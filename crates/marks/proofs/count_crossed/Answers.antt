@@ -33,10 +33,10 @@ pub slice_bounds-cross_layer-end : goal.slice_bounds-cross_layer-end
 slice_bounds-cross_layer-end c = omega (arith, (let the_turn : Begins c.args.n c.loop-w.w (length c.args.samples.now) = begins c.args.n c.loop-w.w _ c.requires.fit c.loop-w-test.true c.requires.samples in the_turn))
 
 pub cross_layer-total-requires : goal.cross_layer-total-requires
-cross_layer-total-requires c =    rw tail_is (layer_sampled c.args.n c.loop-w.w c.args.samples.now c.requires c.loop-w-test.true)
+cross_layer-total-requires c = rw tail_is (layer_sampled c.args.n c.loop-w.w c.args.samples.now c.requires c.loop-w-test.true)
 
 pub overflow_add-total : goal.overflow_add-total
-overflow_add-total c =    let at = c.loop-w in
+overflow_add-total c = let at = c.loop-w in
     record { fits = omega (arith, c.requires.fit, sum_room _ 7168 at.w c.args.n.nw at.total _ (λ i. layer_count-most _ _ _ c.requires.fit.u_most c.requires.fit.v_most) at.invariant.1 (rw tail_is at c.cross_layer-total.ensures) c.loop-w-test.true) }
 
 pub overflow_step-w : goal.overflow_step-w

@@ -12,7 +12,7 @@ pub cross_row-total-requires : goal.cross_row-total-requires
 cross_row-total-requires c = (c.requires, c.loop-v-test.true)
 
 pub overflow_add-total : goal.overflow_add-total
-overflow_add-total c =    let at = c.loop-v in
+overflow_add-total c = let at = c.loop-v in
     record { fits = omega (arith, c.requires.fit, sum_room _ 224 at.v c.args.n.nv at.total _ (row-most _ _ _ c.requires.fit.u_most) at.invariant.1 c.cross_row-total.ensures c.loop-v-test.true) }
 
 pub overflow_step-v : goal.overflow_step-v

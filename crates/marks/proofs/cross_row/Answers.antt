@@ -16,10 +16,10 @@ pub overflow_add-v : goal.overflow_add-v
 overflow_add-v c = record { fits = omega (arith, (row-site c.args.n c.loop-u.u c.args.v c.requires.0.fit c.loop-u-test.true c.requires.1).1) }
 
 pub cross_site-total-requires : goal.cross_site-total-requires
-cross_site-total-requires c =    record { sampled = c.requires.0; in_box = (row-box c.args.n c.loop-u.u c.args.v c.requires.0.fit c.loop-u-test.true c.requires.1, (row-site c.args.n c.loop-u.u c.args.v c.requires.0.fit c.loop-u-test.true c.requires.1).0) }
+cross_site-total-requires c = record { sampled = c.requires.0; in_box = (row-box c.args.n c.loop-u.u c.args.v c.requires.0.fit c.loop-u-test.true c.requires.1, (row-site c.args.n c.loop-u.u c.args.v c.requires.0.fit c.loop-u-test.true c.requires.1).0) }
 
 pub overflow_add-total : goal.overflow_add-total
-overflow_add-total c =    let at = c.loop-u in
+overflow_add-total c = let at = c.loop-u in
     record { fits = omega (arith, c.requires.0.fit, sum_room _ 7 at.u c.args.n.nu at.total _ (λ i. site-most _ _ _ _) at.invariant.1 c.cross_site-total.ensures c.loop-u-test.true) }
 
 pub overflow_step-u : goal.overflow_step-u

@@ -13,7 +13,7 @@ pub crosses_at-total-requires : goal.crosses_at-total-requires
 crosses_at-total-requires c = let pre = c.requires in record { sampled = pre.sampled; in_box = (pre.in_box.0, pre.in_box.1, c.loop-label-test.true) }
 
 pub overflow_add-total : goal.overflow_add-total
-overflow_add-total c =    let at = c.loop-label in
+overflow_add-total c = let at = c.loop-label in
     record { fits = omega (arith, sum_room _ 1 at.label 7 at.total _ (λ l. bit_le _) at.invariant.1 c.crosses_at-total.ensures c.loop-label-test.true) }
 
 pub overflow_step-label : goal.overflow_step-label
@@ -23,7 +23,7 @@ pub loop-label-smaller : goal.loop-label-smaller
 loop-label-smaller c = omega arith
 
 pub loop-label-preserved : goal.loop-label-preserved
-loop-label-preserved c =    let at = c.loop-label in
+loop-label-preserved c = let at = c.loop-label in
     (omega arith, sum-turn _ at.label at.total _ at.invariant.1 c.crosses_at-total.ensures)
 
 pub returns : goal.returns

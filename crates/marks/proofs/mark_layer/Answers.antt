@@ -19,7 +19,7 @@ pub loop-v-smaller : goal.loop-v-smaller
 loop-v-smaller c = omega arith
 
 pub loop-v-preserved : goal.loop-v-preserved
-loop-v-preserved c =    let at = c.loop-v in
+loop-v-preserved c = let at = c.loop-v in
     let call = c.mark_row in
     (omega arith, fold-turn _ at.v _ at.masks _ at.invariant.1 call.ensures, call.auto.masks ∙ at.invariant.2)
 

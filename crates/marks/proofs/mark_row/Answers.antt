@@ -16,7 +16,7 @@ pub overflow_add-v : goal.overflow_add-v
 overflow_add-v c = record { fits = omega (arith, (row-site c.args.n c.loop-u.u c.args.v c.requires.0.fit c.loop-u-test.true c.requires.1).1) }
 
 pub mark_site-requires : goal.mark_site-requires
-mark_site-requires c =    let at = c.loop-u in
+mark_site-requires c = let at = c.loop-u in
     record { room = room_kept c.requires.0 at.invariant.2; in_box = (row-box c.args.n at.u c.args.v c.requires.0.fit c.loop-u-test.true c.requires.1, (row-site c.args.n c.loop-u.u c.args.v c.requires.0.fit c.loop-u-test.true c.requires.1).0) }
 
 pub overflow_step-u : goal.overflow_step-u
@@ -26,7 +26,7 @@ pub loop-u-smaller : goal.loop-u-smaller
 loop-u-smaller c = omega arith
 
 pub loop-u-preserved : goal.loop-u-preserved
-loop-u-preserved c =    let at = c.loop-u in
+loop-u-preserved c = let at = c.loop-u in
     let call = c.mark_site in
     (omega arith, fold-turn _ at.u _ at.masks _ at.invariant.1 call.ensures, call.auto.masks ∙ at.invariant.2)
 

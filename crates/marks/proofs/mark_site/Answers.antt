@@ -19,11 +19,11 @@ pub loop-label-smaller : goal.loop-label-smaller
 loop-label-smaller c = omega arith
 
 pub loop-label-preserved : goal.loop-label-preserved
-loop-label-preserved c =    let at = c.loop-label in
+loop-label-preserved c = let at = c.loop-label in
     let call = c.mark_label in
     (omega arith, fold-turn _ at.label _ at.masks _ at.invariant.1 call.ensures, call.auto.masks ∙ at.invariant.2)
 
 pub returns : goal.returns
 unfolding mark_site
-returns c =    let at = c.loop-label in
+returns c = let at = c.loop-label in
     fold_done _ at.label 7 _ at.masks at.invariant.1 at.invariant.0 c.loop-label-test.false

@@ -8,6 +8,6 @@ use Rattle.marks.proofs.set_bit.Goals as goal
 
 pub returns : goal.returns
 unfolding set_bit
-returns c =    let b = c.args.bit in
+returns c = let b = c.args.bit in
     let small : b < 16 = omega arith in
     rw (one-mul, mod-eq_of_lt (pow-lt small))

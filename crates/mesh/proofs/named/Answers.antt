@@ -31,7 +31,7 @@ pub loop-k-smaller : goal.loop-k-smaller
 loop-k-smaller c = omega arith
 
 pub loop-k-preserved : goal.loop-k-preserved
-loop-k-preserved c =    (omega arith, all_take 0 (λ x. x < c.args.v) c.args.triangles.now c.loop-k.k c.loop-k-test.true c.loop-k.invariant.1 (omega (arith, c.if-v-index.false, c.index.ensures)))
+loop-k-preserved c = (omega arith, all_take 0 (λ x. x < c.args.v) c.args.triangles.now c.loop-k.k c.loop-k-test.true c.loop-k.invariant.1 (omega (arith, c.if-v-index.false, c.index.ensures)))
 
 pub returns : goal.returns
 returns c = let l = c.loop-k in

@@ -29,27 +29,27 @@ pub slice_bounds-flag_run-end : goal.slice_bounds-flag_run-end
 slice_bounds-flag_run-end c = omega arith
 
 pub flag_run-i-requires : goal.flag_run-i-requires
-flag_run-i-requires c =    let l = c.loop-i in
+flag_run-i-requires c = let l = c.loop-i in
     let s₀ = c.args.s.now in (
       omega (arith, ap length (tail_is (l.i * 3) l.s), length-drop (l.i * 3) l.s),
       rw (walked_part s₀ l.s l.i (omega (arith, recs-length s₀)) (omega arith) l.invariant.3) (sorted_drop l.i (recs s₀) c.requires),
     )
 
 pub overflow_add-i : goal.overflow_add-i
-overflow_add-i c =    let l = c.loop-i in
+overflow_add-i c = let l = c.loop-i in
     let s₀ = c.args.s.now in
     let r = c.flag_run-i in
     let w = walked_within s₀ l.s l.i (omega (arith, recs-length s₀)) (omega arith) l.invariant.3 r.ensures in
     omega (arith, recs-length s₀)
 
 pub loop-i-smaller : goal.loop-i-smaller
-loop-i-smaller c =    let l = c.loop-i in
+loop-i-smaller c = let l = c.loop-i in
     let s₀ = c.args.s.now in
     let r = c.flag_run-i in
     omega (arith, r.ensures.front.some)
 
 pub loop-i-preserved : goal.loop-i-preserved
-loop-i-preserved c =    let l = c.loop-i in
+loop-i-preserved c = let l = c.loop-i in
     let s₀ = c.args.s.now in
     let r = c.flag_run-i in
     let fits : l.i * 3 ≤ length l.s = omega arith in
@@ -65,6 +65,6 @@ pub shape_of-s : goal.shape_of-s
 shape_of-s c = c.loop-i.invariant.2
 
 pub returns : goal.returns
-returns c =    let l = c.loop-i in
+returns c = let l = c.loop-i in
     let s₀ = c.args.s.now in
     walked_done (omega (arith, recs-length s₀)) l.invariant.3 (omega (arith, recs-length s₀))

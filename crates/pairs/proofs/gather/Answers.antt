@@ -33,7 +33,7 @@ loop-k-smaller c = omega arith
 
 pub loop-k-preserved : goal.loop-k-preserved
 unfolding pulled
-loop-k-preserved c =    let l = c.loop-k in
+loop-k-preserved c = let l = c.loop-k in
     let s₀ = c.args.s.now in
     (refl, omega arith, length-set l.s l.k (get_or l.s (l.k * 3) 0) ∙ l.invariant.2, fold-turn pulled l.k s₀ l.s _ l.invariant.3 refl)
 
@@ -41,5 +41,5 @@ pub shape_of-s : goal.shape_of-s
 shape_of-s c = omega arith
 
 pub returns : goal.returns
-returns c =    let l = c.loop-k in
+returns c = let l = c.loop-k in
     fold_done pulled l.k _ c.args.s.now l.s l.invariant.3 (omega arith) (omega arith)

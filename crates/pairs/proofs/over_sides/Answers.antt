@@ -12,14 +12,14 @@ pub slice_bounds-flag_home-end-2 : goal.slice_bounds-flag_home-end-2
 slice_bounds-flag_home-end-2 c = sym (length-take-le _ c.list_sides.new.room ((search rules)))
 
 pub flag_home-requires : goal.flag_home-requires
-flag_home-requires c =    let tris = c.args.tris.now in
+flag_home-requires c = let tris = c.args.tris.now in
     let listed = c.list_sides in
     let w : ℕ = length tris * 3 in
     let size : length (take w listed.new.room) ≡ w = length-take-le w listed.new.room ((search rules)) in
     (omega (arith, size), listed.ensures.done.sorted, listed_homed tris c.requires.whole (take w listed.new.room) size listed.ensures.done.perm)
 
 pub returns : goal.returns
-returns c =    let tris = c.args.tris.now in
+returns c = let tris = c.args.tris.now in
     let listed = c.list_sides in
     let home = c.flag_home in
     let end = c.clear in

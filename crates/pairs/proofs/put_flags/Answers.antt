@@ -24,7 +24,7 @@ pub loop-i-smaller : goal.loop-i-smaller
 loop-i-smaller c = omega arith
 
 pub loop-i-preserved : goal.loop-i-preserved
-loop-i-preserved c =    let l = c.loop-i in
+loop-i-preserved c = let l = c.loop-i in
     let a = c.args in
     let r = c.put_flag in
     let q : List Rec = recs a.s.now in
@@ -40,7 +40,7 @@ pub shape_of-s : goal.shape_of-s
 shape_of-s c = omega arith
 
 pub returns : goal.returns
-returns c =    let l = c.loop-i in
+returns c = let l = c.loop-i in
     let a = c.args in
     let e : l.i ≡ a.r = omega arith in
     l.invariant.2 ∙ ap (λ (k : ℕ). map (flagged a.f) (take k (recs a.s.now)) ++ drop k (recs a.s.now)) e

@@ -14,14 +14,14 @@ pub pair_at-p-requires : goal.pair_at-p-requires
 pair_at-p-requires c = omega arith
 
 pub loop-i-init : goal.loop-i-init
-loop-i-init c =    let s = c.args.s.now in
+loop-i-init c = let s = c.args.s.now in
     (refl, omega arith, omega arith, c.pair_at-p.ensures, λ j h. (let z : j ≡ 0 = omega arith in ap (λ (k : ℕ). pair_of (get_or (recs s) k none)) z))
 
 pub pair_at-requires : goal.pair_at-requires
 pair_at-requires c = omega arith
 
 pub returns-then-pair_at-p : goal.returns-then-pair_at-p
-returns-then-pair_at-p c =    let l = c.loop-i in
+returns-then-pair_at-p c = let l = c.loop-i in
     let s = c.args.s.now in
     front_found (recs s) c.requires.1 (words-fit s (λ k. omega (arith, c.shared_slice_known-1.given k))) l.i (omega arith) (omega (arith, recs-length s)) l.invariant.4 (λ h e. c.if-pair_at-p.true (c.pair_at.ensures ∙ e ∙ sym l.invariant.3))
 
@@ -32,7 +32,7 @@ pub loop-i-smaller : goal.loop-i-smaller
 loop-i-smaller c = omega arith
 
 pub loop-i-preserved : goal.loop-i-preserved
-loop-i-preserved c =    let l = c.loop-i in
+loop-i-preserved c = let l = c.loop-i in
     let s = c.args.s.now in (
       refl,
       omega arith,
@@ -42,6 +42,6 @@ loop-i-preserved c =    let l = c.loop-i in
     )
 
 pub returns : goal.returns
-returns c =    let l = c.loop-i in
+returns c = let l = c.loop-i in
     let s = c.args.s.now in
     front_found (recs s) c.requires.1 (words-fit s (λ k. omega (arith, c.shared_slice_known-1.given k))) l.i (omega arith) (omega (arith, recs-length s)) l.invariant.4 (λ h e. omega (arith, recs-length s))

@@ -22,7 +22,7 @@ pub loop-k-smaller : goal.loop-k-smaller
 loop-k-smaller c = omega arith
 
 pub loop-k-preserved : goal.loop-k-preserved
-loop-k-preserved c =    let l = c.loop-k in
+loop-k-preserved c = let l = c.loop-k in
     (omega arith, faces-more _ _ _ _ l.invariant.1 (rw c.if-face_fits.true at c.face_fits.ensures))
 
 pub returns-else-face_fits : goal.returns-else-face_fits

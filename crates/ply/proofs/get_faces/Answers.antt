@@ -18,7 +18,7 @@ pub overflow_add-at : goal.overflow_add-at
 overflow_add-at c = omega arith
 
 pub get_face-next-requires : goal.get_face-next-requires
-get_face-next-requires c =    let l = c.loop-k in
+get_face-next-requires c = let l = c.loop-k in
     let a = c.args in
     (omega arith, written-room (λ i. face_at a.s.now (a.at + i * 13)) 3 (λ i. le_of_eq (face-three a.s.now (a.at + i * 13))) l.k a.n l.invariant.1 c.loop-k-test.true (omega (arith, c.requires.1)))
 
@@ -29,7 +29,7 @@ pub loop-k-smaller : goal.loop-k-smaller
 loop-k-smaller c = omega arith
 
 pub loop-k-preserved : goal.loop-k-preserved
-loop-k-preserved c =    let l = c.loop-k in
+loop-k-preserved c = let l = c.loop-k in
     let a = c.args in
     (omega arith, written-turn (λ i. face_at a.s.now (a.at + i * 13)) l.k l.invariant.1 c.get_face-next.ensures)
 

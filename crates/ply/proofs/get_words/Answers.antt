@@ -21,10 +21,10 @@ pub get8-requires : goal.get8-requires
 get8-requires c = omega arith
 
 pub offset_bounds-words-k : goal.offset_bounds-words-k
-offset_bounds-words-k c =    omega (arith, written-length c.loop-k.invariant.1, c.requires.1)
+offset_bounds-words-k c = omega (arith, written-length c.loop-k.invariant.1, c.requires.1)
 
 pub bounds-words-k : goal.bounds-words-k
-bounds-words-k c =    omega (arith, written-length c.loop-k.invariant.1, c.requires.1)
+bounds-words-k c = omega (arith, written-length c.loop-k.invariant.1, c.requires.1)
 
 pub overflow_add-k : goal.overflow_add-k
 overflow_add-k c = omega arith
@@ -33,7 +33,7 @@ pub loop-k-smaller : goal.loop-k-smaller
 loop-k-smaller c = omega arith
 
 pub loop-k-preserved : goal.loop-k-preserved
-loop-k-preserved c =    let l = c.loop-k in
+loop-k-preserved c = let l = c.loop-k in
     let a = c.args in
     (omega arith, written-turn (λ i. number_at 8 a.s.now (a.at + i * 8) ∷ []) l.k l.invariant.1 (rw c.get8.ensures (written_one l.words l.k (number_at 8 a.s.now (a.at + l.k * 8)))))
 

@@ -29,7 +29,7 @@ pub faces_fit-requires : goal.faces_fit-requires
 faces_fit-requires c = faces-within _ _ _ _ (let the_head_of : HeaderAt c.args.s.now c.in-Got.vertices c.in-Got.faces c.in-Got.next = rw c.in-Got.is at c.read_head.ensures in the_head_of) c.if-s-next.false
 
 pub returns-then-faces_fit : goal.returns-then-faces_fit
-returns-then-faces_fit c =    file-found _ _ _ _ (let the_head_of : HeaderAt c.args.s.now c.in-Got.vertices c.in-Got.faces c.in-Got.next = rw c.in-Got.is at c.read_head.ensures in the_head_of) c.if-s-next.false (λ i. omega (arith, c.shared_slice_known-1.given i)) (rw c.if-faces_fit.true at c.faces_fit.ensures)
+returns-then-faces_fit c = file-found _ _ _ _ (let the_head_of : HeaderAt c.args.s.now c.in-Got.vertices c.in-Got.faces c.in-Got.next = rw c.in-Got.is at c.read_head.ensures in the_head_of) c.if-s-next.false (λ i. omega (arith, c.shared_slice_known-1.given i)) (rw c.if-faces_fit.true at c.faces_fit.ensures)
 
 pub returns : goal.returns
-returns c =    no_body (header_headed _ _ _ _ (let the_head_of : HeaderAt c.args.s.now c.in-Got.vertices c.in-Got.faces c.in-Got.next = rw c.in-Got.is at c.read_head.ensures in the_head_of)) (bad-faces _ _ _ _ (let the_head_of : HeaderAt c.args.s.now c.in-Got.vertices c.in-Got.faces c.in-Got.next = rw c.in-Got.is at c.read_head.ensures in the_head_of) (rw c.if-faces_fit.false at c.faces_fit.ensures)) refl
+returns c = no_body (header_headed _ _ _ _ (let the_head_of : HeaderAt c.args.s.now c.in-Got.vertices c.in-Got.faces c.in-Got.next = rw c.in-Got.is at c.read_head.ensures in the_head_of)) (bad-faces _ _ _ _ (let the_head_of : HeaderAt c.args.s.now c.in-Got.vertices c.in-Got.faces c.in-Got.next = rw c.in-Got.is at c.read_head.ensures in the_head_of) (rw c.if-faces_fit.false at c.faces_fit.ensures)) refl

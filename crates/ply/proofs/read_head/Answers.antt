@@ -11,17 +11,17 @@ pub dec_line-requires-2 : goal.dec_line-requires-2
 dec_line-requires-2 c = (rw c.in-Got.is at c.dec_line.ensures).within
 
 pub returns-in_default-dec_line : goal.returns-in_default-dec_line
-returns-in_default-dec_line c =    no_middle _ _ _ (rw c.in-Got.is at c.dec_line.ensures) (rw c.in_default-dec_line.is at c.dec_line-2.ensures)
+returns-in_default-dec_line c = no_middle _ _ _ (rw c.in-Got.is at c.dec_line.ensures) (rw c.in_default-dec_line.is at c.dec_line-2.ensures)
 
 pub has-requires : goal.has-requires
 has-requires c = (rw c.in-Got-dec_line.is at c.dec_line-2.ensures).within
 
 pub overflow_add-result : goal.overflow_add-result
-overflow_add-result c =    let g = head_got _ _ _ (rw c.in-Got.is at c.dec_line.ensures) _ _ (rw c.in-Got-dec_line.is at c.dec_line-2.ensures) (rw c.if-has.true at (sym c.has.ensures)) in
+overflow_add-result c = let g = head_got _ _ _ (rw c.in-Got.is at c.dec_line.ensures) _ _ (rw c.in-Got-dec_line.is at c.dec_line-2.ensures) (rw c.if-has.true at (sym c.has.ensures)) in
     omega (arith, head_within _ _ _ _ g, c.well_formed.0.0)
 
 pub returns-then-has : goal.returns-then-has
-returns-then-has c =    head_got _ _ _ (rw c.in-Got.is at c.dec_line.ensures) _ _ (rw c.in-Got-dec_line.is at c.dec_line-2.ensures) (rw c.if-has.true at (sym c.has.ensures))
+returns-then-has c = head_got _ _ _ (rw c.in-Got.is at c.dec_line.ensures) _ _ (rw c.in-Got-dec_line.is at c.dec_line-2.ensures) (rw c.if-has.true at (sym c.has.ensures))
 
 pub returns : goal.returns
-returns c =    no_closing _ _ _ (rw c.in-Got.is at c.dec_line.ensures) _ _ (rw c.in-Got-dec_line.is at c.dec_line-2.ensures) (rw c.if-has.false at (sym c.has.ensures))
+returns c = no_closing _ _ _ (rw c.in-Got.is at c.dec_line.ensures) _ _ (rw c.in-Got-dec_line.is at c.dec_line-2.ensures) (rw c.if-has.false at (sym c.has.ensures))

@@ -14,7 +14,7 @@ pub returns-then-file-gt131072 : goal.returns-then-file-gt131072
 returns-then-file-gt131072 c = again_long _ _ c.sizes-c.ensures c.if-status-eq9.false c.if-file-gt131072.true _ _ _ c.put_status-arg-then-file-gt131072-1.given.0.1 c.put_status-then-file-gt131072.ensures
 
 pub returns-then-status-ne0 : goal.returns-then-status-ne0
-returns-then-status-ne0 c =    again_ten _ _ c.sizes-c.ensures c.if-status-eq9.false c.if-file-gt131072.false c.if-status-ne0.true _ _ _
+returns-then-status-ne0 c = again_ten _ _ c.sizes-c.ensures c.if-status-eq9.false c.if-file-gt131072.false c.if-status-ne0.true _ _ _
     c.put_status-arg-then-status-ne0-1.given.0.1 c.put_status-then-status-ne0.ensures
 
 pub overflow_mul-n : goal.overflow_mul-n
@@ -36,5 +36,5 @@ pub slice_bounds-write-end-2 : goal.slice_bounds-write-end-2
 slice_bounds-write-end-2 c = sym (length-take-le _ _ ((let the_room_triangles : c.read-r.result.faces * 3 ≤ length c.read-r.new.triangles = triangles_there _ _ c.sizes-c.ensures c.if-status-ne0.false c.if-file-gt131072.false _ _ _ _ (length-replicate {A = ℕ} 16384 0) (length-replicate {A = ℕ} 32768 0) _ c.read-r.ensures in the_room_triangles)))
 
 pub returns : goal.returns
-returns c =    again-done _ _ c.sizes-c.ensures c.if-status-ne0.false c.if-file-gt131072.false _ _ _ _ (length-replicate {A = ℕ} 16384 0) (length-replicate {A = ℕ} 32768 0) _ c.read-r.ensures _ _ _
+returns c = again-done _ _ c.sizes-c.ensures c.if-status-ne0.false c.if-file-gt131072.false _ _ _ _ (length-replicate {A = ℕ} 16384 0) (length-replicate {A = ℕ} 32768 0) _ c.read-r.ensures _ _ _
     c.write-arg-1.given.0.1 c.write-w.ensures

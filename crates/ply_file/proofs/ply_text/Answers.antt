@@ -6,27 +6,27 @@ use Rattle.ply_file.proofs.Texts.{drawn_refused, mesh, drawn_done}
 use Rattle.ply_file.proofs.ply_text.Goals as goal
 
 pub returns-then-status-ne0 : goal.returns-then-status-ne0
-returns-then-status-ne0 c =    drawn_refused _ _ _ _ refl c.build_file-built.ensures c.if-status-ne0.true _ _ _ c.put_status-arg-1.given.0.1 c.put_status.ensures
+returns-then-status-ne0 c = drawn_refused _ _ _ _ refl c.build_file-built.ensures c.if-status-ne0.true _ _ _ c.put_status-arg-1.given.0.1 c.put_status.ensures
 
 pub overflow_mul-v : goal.overflow_mul-v
-overflow_mul-v c =    omega (arith, (mesh _ _ _ _ refl c.build_file-built.ensures c.if-status-ne0.false).few_vertices)
+overflow_mul-v c = omega (arith, (mesh _ _ _ _ refl c.build_file-built.ensures c.if-status-ne0.false).few_vertices)
 
 pub overflow_mul-t : goal.overflow_mul-t
-overflow_mul-t c =    omega (arith, (mesh _ _ _ _ refl c.build_file-built.ensures c.if-status-ne0.false).few_triangles)
+overflow_mul-t c = omega (arith, (mesh _ _ _ _ refl c.build_file-built.ensures c.if-status-ne0.false).few_triangles)
 
 pub slice_bounds-positions-end : goal.slice_bounds-positions-end
-slice_bounds-positions-end c =    (mesh _ _ _ _ refl c.build_file-built.ensures c.if-status-ne0.false).room_positions
+slice_bounds-positions-end c = (mesh _ _ _ _ refl c.build_file-built.ensures c.if-status-ne0.false).room_positions
 
 pub slice_bounds-write_mesh-end : goal.slice_bounds-write_mesh-end
 slice_bounds-write_mesh-end c = sym (length-take-le _ _ ((
     (mesh _ _ _ _ refl c.build_file-built.ensures c.if-status-ne0.false).room_positions)))
 
 pub slice_bounds-triangles-end : goal.slice_bounds-triangles-end
-slice_bounds-triangles-end c =    (mesh _ _ _ _ refl c.build_file-built.ensures c.if-status-ne0.false).room_triangles
+slice_bounds-triangles-end c = (mesh _ _ _ _ refl c.build_file-built.ensures c.if-status-ne0.false).room_triangles
 
 pub slice_bounds-write_mesh-end-2 : goal.slice_bounds-write_mesh-end-2
 slice_bounds-write_mesh-end-2 c = sym (length-take-le _ _ ((
     (mesh _ _ _ _ refl c.build_file-built.ensures c.if-status-ne0.false).room_triangles)))
 
 pub returns : goal.returns
-returns c =    drawn_done _ _ _ _ refl c.build_file-built.ensures c.if-status-ne0.false _ _ _ c.write_mesh-arg-1.given.0.1 c.write_mesh-wrote.ensures
+returns c = drawn_done _ _ _ _ refl c.build_file-built.ensures c.if-status-ne0.false _ _ _ c.write_mesh-arg-1.given.0.1 c.write_mesh-wrote.ensures

@@ -11,22 +11,22 @@ pub put4-x-requires : goal.put4-x-requires
 put4-x-requires c = simp length-set (omega arith)
 
 pub put4-y-requires : goal.put4-y-requires
-put4-y-requires c =    let p = c.put4-x.ensures in
+put4-y-requires c = let p = c.put4-x.ensures in
     omega (arith, c.requires, p.next, written-length p, length-set c.args.out.now c.args.at 3, bytes_length 4 c.wider.result)
 
 pub put4-requires : goal.put4-requires
-put4-requires c =    let p = c.put4-x.ensures in
+put4-requires c = let p = c.put4-x.ensures in
     let q = c.put4-y.ensures in
     omega (arith, c.requires, p.next, written-length p, length-set c.args.out.now c.args.at 3, q.next, written-length q, bytes_length 4 c.wider.result, bytes_length 4 c.wider-2.result)
 
 pub shape_of-out : goal.shape_of-out
-shape_of-out c =    written-length c.put4.ensures
+shape_of-out c = written-length c.put4.ensures
     ∙ written-length c.put4-y.ensures
     ∙ written-length c.put4-x.ensures
     ∙ length-set c.args.out.now c.args.at 3
 
 pub returns : goal.returns
-returns c =    put_face _ _ _ _ _ _ _ _ _ _ _
+returns c = put_face _ _ _ _ _ _ _ _ _ _ _
     (rw c.wider.ensures at c.put4-x.ensures)
     (rw c.wider-2.ensures at c.put4-y.ensures)
     (rw c.wider-3.ensures at c.put4.ensures)

@@ -40,7 +40,7 @@ pub bounds-triangles-p-in-loop-k-2 : goal.bounds-triangles-p-in-loop-k-2
 bounds-triangles-p-in-loop-k-2 c = omega arith
 
 pub put_face-next-requires : goal.put_face-next-requires
-put_face-next-requires c =    let l = c.loop-k in
+put_face-next-requires c = let l = c.loop-k in
     let t = c.args.triangles.now in
     written-room (λ i. face_text (get_or t (i * 3) 0) (get_or t (i * 3 + 1) 0) (get_or t (i * 3 + 2) 0)) 13 (λ i. le_of_eq (face-length (get_or t (i * 3) 0) (get_or t (i * 3 + 1) 0) (get_or t (i * 3 + 2) 0))) l.k (length t / 3) l.invariant.1 c.loop-k-test.true c.requires
 
@@ -51,7 +51,7 @@ pub loop-k-smaller : goal.loop-k-smaller
 loop-k-smaller c = omega arith
 
 pub loop-k-preserved : goal.loop-k-preserved
-loop-k-preserved c =    let l = c.loop-k in
+loop-k-preserved c = let l = c.loop-k in
     let t = c.args.triangles.now in
     (omega arith, written-turn (λ i. face_text (get_or t (i * 3) 0) (get_or t (i * 3 + 1) 0) (get_or t (i * 3 + 2) 0)) l.k l.invariant.1 c.put_face-next.ensures)
 

@@ -23,7 +23,7 @@ pub bounds-positions-k : goal.bounds-positions-k
 bounds-positions-k c = omega arith
 
 pub put8-next-requires : goal.put8-next-requires
-put8-next-requires c =    let l = c.loop-k in
+put8-next-requires c = let l = c.loop-k in
     let w = bits_of c.args.positions.now in
     written-room (λ i. bytes_of 8 (get_or w i 0)) 8 (λ i. le_of_eq (bytes_length 8 (get_or w i 0))) l.k (length c.args.positions.now) l.invariant.1 c.loop-k-test.true c.requires
 
@@ -34,7 +34,7 @@ pub loop-k-smaller : goal.loop-k-smaller
 loop-k-smaller c = omega arith
 
 pub loop-k-preserved : goal.loop-k-preserved
-loop-k-preserved c =    let l = c.loop-k in
+loop-k-preserved c = let l = c.loop-k in
     let p = c.args.positions.now in
     let e : c.bits_of_float.result ≡ get_or (bits_of p) l.k 0 = c.bits_of_float.ensures ∙ sym (get_d_map (to_bits binary64) p l.k _ 0 c.loop-k-test.true) in
     (omega arith, written-turn (λ i. bytes_of 8 (get_or (bits_of p) i 0)) l.k l.invariant.1 (rw e at c.put8-next.ensures))

@@ -19,7 +19,7 @@ pub bounds-words-k : goal.bounds-words-k
 bounds-words-k c = omega arith
 
 pub put8-next-requires : goal.put8-next-requires
-put8-next-requires c =    let l = c.loop-k in
+put8-next-requires c = let l = c.loop-k in
     written-room (λ i. bytes_of 8 (get_or c.args.words.now i 0)) 8 (λ i. le_of_eq (bytes_length 8 (get_or c.args.words.now i 0))) l.k (length c.args.words.now) l.invariant.1 c.loop-k-test.true c.requires
 
 pub overflow_add-k : goal.overflow_add-k
@@ -29,7 +29,7 @@ pub loop-k-smaller : goal.loop-k-smaller
 loop-k-smaller c = omega arith
 
 pub loop-k-preserved : goal.loop-k-preserved
-loop-k-preserved c =    let l = c.loop-k in
+loop-k-preserved c = let l = c.loop-k in
     (omega arith, written-turn (λ i. bytes_of 8 (get_or c.args.words.now i 0)) l.k l.invariant.1 c.put8-next.ensures)
 
 pub shape_of-out : goal.shape_of-out

@@ -17,7 +17,7 @@ unfolding edge_point
 met f a b p q x y t r g h d e k m = rw (g, h, m, d, e, k)
 
 pub returns-then-is_finite-2 : goal.returns-then-is_finite-2
-returns-then-is_finite-2 c =    met _ _ _ _ _ _ _ _ _ (sym c.is_finite.ensures ∙ c.if-is_finite.true) (sym c.is_finite-then-is_finite.ensures ∙ c.if-is_finite-2.true)
+returns-then-is_finite-2 c = met _ _ _ _ _ _ _ _ _ (sym c.is_finite.ensures ∙ c.if-is_finite.true) (sym c.is_finite-then-is_finite.ensures ∙ c.if-is_finite-2.true)
     c.position_of-from.ensures c.position_of-to.ensures c.point_fraction-t.ensures c.interpolate_points.ensures
 
 pub returns-else-is_finite-2 : goal.returns-else-is_finite-2

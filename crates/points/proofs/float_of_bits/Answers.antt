@@ -9,7 +9,7 @@ use Rattle.points.proofs.Bits.{only_nan, zero_over_zero}
 use Rattle.points.proofs.float_of_bits.Goals as goal
 
 pub returns-then-n-gt9218868437227405312 : goal.returns-then-n-gt9218868437227405312
-returns-then-n-gt9218868437227405312 c =    let n = c.args.n in
+returns-then-n-gt9218868437227405312 c = let n = c.args.n in
     zero_over_zero
     ∙ sym (only_nan (of_bits binary64 n) (subst T (sym (sym (nan_bits_is binary64 n) ∙ nan_bits_above binary64 n ∙ lt-ltb _ _ c.if-n-gt9218868437227405312.true)) tt))
 

@@ -12,4 +12,4 @@ pub along_axis-requires-3 : goal.along_axis-requires-3
 along_axis-requires-3 c = small_cast c.ijk_of-at.result.k (site-small _ _ _ _ c.ijk_of-at.ensures c.requires).k
 
 pub returns : goal.returns
-returns c =    place_is c.args.frame c.ijk_of-at.result _ _ _ _ c.ijk_of-at.ensures (site-small _ _ _ _ c.ijk_of-at.ensures c.requires) c.along_axis.ensures c.along_axis-2.ensures c.along_axis-3.ensures
+returns c = place_is c.args.frame c.ijk_of-at.result _ _ _ _ c.ijk_of-at.ensures (site-small _ _ _ _ c.ijk_of-at.ensures c.requires) c.along_axis.ensures c.along_axis-2.ensures c.along_axis-3.ensures

@@ -23,7 +23,7 @@ pub overflow_shl-b : goal.overflow_shl-b
 overflow_shl-b c = omega (arith, (let the_edge : count_trailing_zeros 16 c.loop-rest.rest < 14 = low-here 16 14 c.loop-rest.rest (omega arith) (let the_some : 0 < c.loop-rest.rest = omega arith in the_some) c.loop-rest.invariant.short in the_edge))
 
 pub holds-requires : goal.holds-requires
-holds-requires c =    let p = c.requires in
+holds-requires c = let p = c.requires in
     (p.0, p.1, (let the_edge : count_trailing_zeros 16 c.loop-rest.rest < 14 = low-here 16 14 c.loop-rest.rest (omega arith) (let the_some : 0 < c.loop-rest.rest = omega arith in the_some) c.loop-rest.invariant.short in the_edge), p.2)
 
 pub loop-rest-smaller-then-holds : goal.loop-rest-smaller-then-holds
@@ -49,6 +49,6 @@ loop-rest-preserved c = rw (let the_bit : 1 * 2 ^ count_trailing_zeros 16 c.loop
     held-turn a.n a.table.now a.s a.i a.marks at.rest at.held at.invariant (let the_some : 0 < c.loop-rest.rest = omega arith in the_some) b (sym h ∙ c.holds.ensures) in the_turn) false c.if-holds.false)
 
 pub returns : goal.returns
-returns c =    let a = c.args in
+returns c = let a = c.args in
     let at = c.loop-rest in
     held-end a.n a.table.now a.s a.i a.marks at.rest at.held at.invariant c.loop-rest-test.false

@@ -8,14 +8,14 @@ use Rattle.rollback.proofs.Masks.{held-read}
 use Rattle.rollback.proofs.holds.Goals as goal
 
 pub offset_bounds-table-k : goal.offset_bounds-table-k
-offset_bounds-table-k c =    omega (arith, c.edge_place-k.ensures, place-low c.args.n c.args.s c.args.e c.requires.1 c.requires.2, sites-most c.args.n c.requires.0)
+offset_bounds-table-k c = omega (arith, c.edge_place-k.ensures, place-low c.args.n c.args.s c.args.e c.requires.1 c.requires.2, sites-most c.args.n c.requires.0)
 
 pub bounds-table-k : goal.bounds-table-k
-bounds-table-k c = (let the_within : c.edge_place-k.result < length c.args.table.now = 
+bounds-table-k c = (let the_within : c.edge_place-k.result < length c.args.table.now =
     omega (arith, c.edge_place-k.ensures, place-low c.args.n c.args.s c.args.e c.requires.1 c.requires.2, c.requires.3) in the_within)
 
 pub returns : goal.returns
-returns c =    let a = c.args in
+returns c = let a = c.args in
     let p = c.edge_place-k in
-    held-read a.n a.table.now a.s a.e a.i p.result p.ensures (let the_within : c.edge_place-k.result < length c.args.table.now = 
+    held-read a.n a.table.now a.s a.e a.i p.result p.ensures (let the_within : c.edge_place-k.result < length c.args.table.now =
     omega (arith, c.edge_place-k.ensures, place-low c.args.n c.args.s c.args.e c.requires.1 c.requires.2, c.requires.3) in the_within)

@@ -3,12 +3,12 @@ use Rattle.rollback.proofs.Vertex.{vertex_space, vertex_replaced}
 use Rattle.rollback.proofs.roll_vertex.Goals as goal
 
 pub draw_singles-after-requires : goal.draw_singles-after-requires
-draw_singles-after-requires c =    let a = c.args in
+draw_singles-after-requires c = let a = c.args in
     let p = c.requires.placed in
     let call = c.held_mask-held in
     record { drawable = record { sampled = p.sampled; low = p.site; table = p.table }; space = vertex_space a.frame a.n a.samples.now a.masks.now a.table.now a.positions.now a.book.now a.i a.next a.round call.result call.ensures c.requires.space }
 
 pub returns : goal.returns
-returns c =    let a = c.args in
+returns c = let a = c.args in
     let call = c.held_mask-held in
     vertex_replaced a.frame a.n a.samples.now a.masks.now a.table.now a.positions.now a.book.now a.i a.next a.round call.result call.ensures c.draw_singles-after.ensures

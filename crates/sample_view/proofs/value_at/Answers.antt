@@ -8,11 +8,11 @@ pub site_count-requires : goal.site_count-requires
 site_count-requires c = sides-fit c.args.n (sym c.sides_ok.ensures ∙ c.if-sides_ok.true)
 
 pub returns-then-s-site_count : goal.returns-then-s-site_count
-returns-then-s-site_count c =    let a = c.args in
+returns-then-s-site_count c = let a = c.args in
     at_there a.n a.samples.now a.s _ _ (sym c.sides_ok.ensures ∙ c.if-sides_ok.true) c.site_count.ensures c.if-s-site_count.true c.entry_at.ensures
 
 pub returns-else-s-site_count : goal.returns-else-s-site_count
-returns-else-s-site_count c =    let a = c.args in
+returns-else-s-site_count c = let a = c.args in
     at_past a.n a.samples.now a.s _ (sym c.sides_ok.ensures ∙ c.if-sides_ok.true) c.site_count.ensures c.if-s-site_count.false
 
 pub returns-else-sides_ok : goal.returns-else-sides_ok

@@ -22,7 +22,7 @@ pub overflow_add-result-then-far-s : goal.overflow_add-result-then-far-s
 overflow_add-result-then-far-s c = omega (arith, c.requires.1, sites-most c.args.n c.requires.0, c.requires.2)
 
 pub returns-then-far-s : goal.returns-then-far-s
-returns-then-far-s c =    let s = c.args in
+returns-then-far-s c = let s = c.args in
     ap (λ (x : ℕ). 7 * (s.s - x) + (s.e - 7)) c.reach_of-far.ensures ∙ sym (owned_high s.n s.s s.e c.if-e-lt-OWNED_EDGES.false)
 
 pub returns : goal.returns

@@ -13,6 +13,6 @@ pub bounds-positions-at-3 : goal.bounds-positions-at-3
 bounds-positions-at-3 c = simp length-set (omega arith)
 
 pub returns : goal.returns
-returns c =    let n = c.args.at in
+returns c = let n = c.args.at in
     let two : n + 2 ≡ suc (suc n) = omega arith in
     rw (add-one, two)

@@ -16,7 +16,7 @@ pub bounds-book-at-4 : goal.bounds-book-at-4
 bounds-book-at-4 c = simp length-set (omega arith)
 
 pub returns : goal.returns
-returns c =    let n = c.args.at in
+returns c = let n = c.args.at in
     let two : n + 2 ≡ suc (suc n) = omega arith in
     let three : n + 3 ≡ suc (suc (suc n)) = omega arith in
     rw (add-one, two, three)

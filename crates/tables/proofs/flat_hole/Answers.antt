@@ -7,5 +7,5 @@ use Rattle.tables.proofs.Source.{hole_at}
 use Rattle.tables.proofs.flat_hole.Goals as goal
 
 pub returns : goal.returns
-returns c =    ap (λ (l : List ℕ). record { edges = get_or l 0 0; opposite = get_or l 1 0 })
+returns c = ap (λ (l : List ℕ). record { edges = get_or l 0 0; opposite = get_or l 1 0 })
     (hole_at _ _ c.flat_hole_rows-rows.ensures c.requires)

@@ -27,7 +27,7 @@ bounds-rows-f c = (let the_edge : count_trailing_zeros 16 c.loop-left.left < 14 
 
 pub differ_by_delta-near-requires : goal.differ_by_delta-near-requires
 unfolding deltas
-differ_by_delta-near-requires c =    (edge-small _ _ (let the_of_e : c.offset_of-d.result ≡ delta c.args.e = c.offset_of-d.ensures ∙ row-delta _ c.requires in the_of_e) c.requires, edge-small _ _ (let the_of_low : c.offset_of-g.result ≡ delta (count_trailing_zeros 16 c.loop-left.left) = c.offset_of-g.ensures ∙ row-delta _ (let the_edge : count_trailing_zeros 16 c.loop-left.left < 14 = low-here 16 14 _ (omega arith) (let the_some : 0 < c.loop-left.left = omega arith in the_some) c.loop-left.invariant.short in the_edge) in the_of_low) (let the_edge : count_trailing_zeros 16 c.loop-left.left < 14 = low-here 16 14 _ (omega arith) (let the_some : 0 < c.loop-left.left = omega arith in the_some) c.loop-left.invariant.short in the_edge))
+differ_by_delta-near-requires c = (edge-small _ _ (let the_of_e : c.offset_of-d.result ≡ delta c.args.e = c.offset_of-d.ensures ∙ row-delta _ c.requires in the_of_e) c.requires, edge-small _ _ (let the_of_low : c.offset_of-g.result ≡ delta (count_trailing_zeros 16 c.loop-left.left) = c.offset_of-g.ensures ∙ row-delta _ (let the_edge : count_trailing_zeros 16 c.loop-left.left < 14 = low-here 16 14 _ (omega arith) (let the_some : 0 < c.loop-left.left = omega arith in the_some) c.loop-left.invariant.short in the_edge) in the_of_low) (let the_edge : count_trailing_zeros 16 c.loop-left.left < 14 = low-here 16 14 _ (omega arith) (let the_some : 0 < c.loop-left.left = omega arith in the_some) c.loop-left.invariant.short in the_edge))
 
 pub overflow_cast-found : goal.overflow_cast-found
 overflow_cast-found c = omega (arith, (let the_edge : count_trailing_zeros 16 c.loop-left.left < 14 = low-here 16 14 _ (omega arith) (let the_some : 0 < c.loop-left.left = omega arith in the_some) c.loop-left.invariant.short in the_edge))
@@ -40,7 +40,7 @@ loop-left-smaller c = rw (let the_off : bit_and c.loop-left.left (c.loop-left.le
 
 pub loop-left-preserved : goal.loop-left-preserved
 unfolding deltas
-loop-left-preserved c = rw (let the_off : bit_and c.loop-left.left (c.loop-left.left - 1) ≡ bit_xor c.loop-left.left (2 ^ count_trailing_zeros 16 c.loop-left.left) = low-off 16 14 _ (omega arith) (let the_some : 0 < c.loop-left.left = omega arith in the_some) c.loop-left.invariant.short in the_off) (ask_turn _ _ _ _ (let the_some : 0 < c.loop-left.left = omega arith in the_some) c.loop-left.invariant c.differ_by_delta-near.result (let the_asked : c.differ_by_delta-near.result ≡ are_neighbours c.args.e (count_trailing_zeros 16 c.loop-left.left) = 
+loop-left-preserved c = rw (let the_off : bit_and c.loop-left.left (c.loop-left.left - 1) ≡ bit_xor c.loop-left.left (2 ^ count_trailing_zeros 16 c.loop-left.left) = low-off 16 14 _ (omega arith) (let the_some : 0 < c.loop-left.left = omega arith in the_some) c.loop-left.invariant.short in the_off) (ask_turn _ _ _ _ (let the_some : 0 < c.loop-left.left = omega arith in the_some) c.loop-left.invariant c.differ_by_delta-near.result (let the_asked : c.differ_by_delta-near.result ≡ are_neighbours c.args.e (count_trailing_zeros 16 c.loop-left.left) =
     c.differ_by_delta-near.ensures ∙ differ_neighbours _ _ _ _ (let the_of_e : c.offset_of-d.result ≡ delta c.args.e = c.offset_of-d.ensures ∙ row-delta _ c.requires in the_of_e) (let the_of_low : c.offset_of-g.result ≡ delta (count_trailing_zeros 16 c.loop-left.left) = c.offset_of-g.ensures ∙ row-delta _ (let the_edge : count_trailing_zeros 16 c.loop-left.left < 14 = low-here 16 14 _ (omega arith) (let the_some : 0 < c.loop-left.left = omega arith in the_some) c.loop-left.invariant.short in the_edge) in the_of_low) c.requires (let the_edge : count_trailing_zeros 16 c.loop-left.left < 14 = low-here 16 14 _ (omega arith) (let the_some : 0 < c.loop-left.left = omega arith in the_some) c.loop-left.invariant.short in the_edge) in the_asked))
 
 pub returns : goal.returns

@@ -9,11 +9,11 @@ pub comps-init : goal.comps-init
 comps-init c = outer_start c.args.edge_mask
 
 pub walk-init : goal.walk-init
-walk-init c =    let o = c.comps in
+walk-init c = let o = c.comps in
     inner_start o.remaining c.lowbit-seed.result o.visits (omega arith) o.invariant.short c.lowbit-seed.ensures
 
 pub overflow_add-visits : goal.overflow_add-visits
-overflow_add-visits c =    let o = c.comps in
+overflow_add-visits c = let o = c.comps in
     omega (arith, inner_few _ _ _ _ _ _ c.walk.invariant, outer_few _ _ _ _ _ o.invariant)
 
 pub overflow_cast-e : goal.overflow_cast-e
@@ -23,11 +23,11 @@ pub neighbours_in-nbrs-requires : goal.neighbours_in-nbrs-requires
 neighbours_in-nbrs-requires c = (let the_edge_lt : count_trailing_zeros 16 c.lowbit-b.result < 14 = let w = c.walk in zeros-lt w.frontier c.lowbit-b.result (omega arith) w.invariant.walking.fr_short c.lowbit-b.ensures in the_edge_lt)
 
 pub walk-smaller : goal.walk-smaller
-walk-smaller c =    let w = c.walk in
+walk-smaller c = let w = c.walk in
     inner_less _ w.remaining w.comp w.frontier c.lowbit-b.result (omega arith) c.lowbit-b.ensures w.invariant
 
 pub walk-preserved : goal.walk-preserved
-walk-preserved c =    let w = c.walk in
+walk-preserved c = let w = c.walk in
     inner_turn _ w.remaining w.comp w.frontier c.lowbit-b.result _ _ _ (omega arith) c.lowbit-b.ensures c.neighbours_in-nbrs.ensures w.invariant
 
 pub offset_bounds-masks-count : goal.offset_bounds-masks-count

@@ -28,30 +28,30 @@ pub returns-then-not-cluster : goal.returns-then-not-cluster
 returns-then-not-cluster c = ap (answer DoNotCluster 0) c.do_not_cluster-clusters.ensures ∙ sym (is-apart _ _ _ _ c.if-m-eq0.false (ap not c.if-not-cluster.true))
 
 pub returns-then-m-eq-ALL14_MASK : goal.returns-then-m-eq-ALL14_MASK
-returns-then-m-eq-ALL14_MASK c =    ap (answer ClosedSurface 0) c.do_not_cluster-clusters-then-m-eq-ALL14_MASK.ensures
+returns-then-m-eq-ALL14_MASK c = ap (answer ClosedSurface 0) c.do_not_cluster-clusters-then-m-eq-ALL14_MASK.ensures
     ∙ sym (is-closed _ _ _ _ c.if-m-eq0.false (ap not c.if-not-cluster.false) c.if-m-eq-ALL14_MASK.true)
 
 pub returns-then-surfaces-gt1 : goal.returns-then-surfaces-gt1
-returns-then-surfaces-gt1 c =    ap (λ (r : Components). answer MultiSurface r.visits (record { count = r.count; masks = r.masks })) c.connected_components_masks-surfaces.ensures
+returns-then-surfaces-gt1 c = ap (λ (r : Components). answer MultiSurface r.visits (record { count = r.count; masks = r.masks })) c.connected_components_masks-surfaces.ensures
     ∙ sym (is-surfaces _ _ _ _ c.if-m-eq0.false (ap not c.if-not-cluster.false) c.if-m-eq-ALL14_MASK.false
     (subst (λ (r : Components). 1 < r.count) c.connected_components_masks-surfaces.ensures c.if-surfaces-gt1.true))
 
 pub overflow_add-total : goal.overflow_add-total
-overflow_add-total c =    omega (arith, few _ _ c.connected_components_masks-surfaces.ensures, few _ _ c.connected_components_masks-holes.ensures)
+overflow_add-total c = omega (arith, few _ _ c.connected_components_masks-surfaces.ensures, few _ _ c.connected_components_masks-holes.ensures)
 
 pub returns-then-holes-ne1 : goal.returns-then-holes-ne1
-returns-then-holes-ne1 c =    (λ i. both MultiHole (c.connected_components_masks-surfaces.ensures i) (c.connected_components_masks-holes.ensures i) (c.do_not_cluster-clusters-then-holes-ne1.ensures i))
+returns-then-holes-ne1 c = (λ i. both MultiHole (c.connected_components_masks-surfaces.ensures i) (c.connected_components_masks-holes.ensures i) (c.do_not_cluster-clusters-then-holes-ne1.ensures i))
     ∙ sym (is-holes _ _ _ _ c.if-m-eq0.false (ap not c.if-not-cluster.false) c.if-m-eq-ALL14_MASK.false (let the_one_surface : length (components (fourteen c.args.near_mask)) ≤ 1 = subst (λ (r : Components). r.count ≤ 1) c.connected_components_masks-surfaces.ensures c.if-surfaces-gt1.false in the_one_surface)
     (λ q. c.if-holes-ne1.true (ap (λ (r : Components). r.count) c.connected_components_masks-holes.ensures ∙ q)))
 
 pub returns-then-is_flat_hole : goal.returns-then-is_flat_hole
-returns-then-is_flat_hole c =    (λ i. both FlatHole (c.connected_components_masks-surfaces.ensures i) (c.connected_components_masks-holes.ensures i) (c.do_not_cluster-clusters-then-is_flat_hole.ensures i))
+returns-then-is_flat_hole c = (λ i. both FlatHole (c.connected_components_masks-surfaces.ensures i) (c.connected_components_masks-holes.ensures i) (c.do_not_cluster-clusters-then-is_flat_hole.ensures i))
     ∙ sym (is_flat_lem _ _ _ _ c.if-m-eq0.false (ap not c.if-not-cluster.false) c.if-m-eq-ALL14_MASK.false (let the_one_surface : length (components (fourteen c.args.near_mask)) ≤ 1 = subst (λ (r : Components). r.count ≤ 1) c.connected_components_masks-surfaces.ensures c.if-surfaces-gt1.false in the_one_surface)
     (sym (ap (λ (r : Components). r.count) c.connected_components_masks-holes.ensures) ∙ c.if-holes-ne1.false)
     (sym c.is_flat_hole.ensures ∙ c.if-is_flat_hole.true))
 
 pub returns : goal.returns
-returns c =    (λ i. both SimpleSurface (c.connected_components_masks-surfaces.ensures i) (c.connected_components_masks-holes.ensures i) (c.one_cluster-clusters.ensures i))
+returns c = (λ i. both SimpleSurface (c.connected_components_masks-surfaces.ensures i) (c.connected_components_masks-holes.ensures i) (c.one_cluster-clusters.ensures i))
     ∙ sym (is_simple _ _ _ _ c.if-m-eq0.false (ap not c.if-not-cluster.false) c.if-m-eq-ALL14_MASK.false (let the_one_surface : length (components (fourteen c.args.near_mask)) ≤ 1 = subst (λ (r : Components). r.count ≤ 1) c.connected_components_masks-surfaces.ensures c.if-surfaces-gt1.false in the_one_surface)
     (sym (ap (λ (r : Components). r.count) c.connected_components_masks-holes.ensures) ∙ c.if-holes-ne1.false)
     (sym c.is_flat_hole.ensures ∙ c.if-is_flat_hole.false))

@@ -17,8 +17,9 @@ unfolding collapses
 returns-then-near_a c =
     let near_a : c.if-is_near.near_a ≡ is_near c.args.a c.args.d c.args.h && is_near c.args.a c.args.c c.args.h =
     elim c.if-is_near.branch [
-      then-is_near w ↦ and_both _ _ _ _ _ c.is_near.ensures w.if-is_near.true w.is_near-near_a.ensures w.near_a-is
-    | else-is_near w ↦ and_first _ _ _ _ c.is_near.ensures w.if-is_near.false w.near_a-is ] in
+      | then-is_near w ↦ and_both _ _ _ _ _ c.is_near.ensures w.if-is_near.true w.is_near-near_a.ensures w.near_a-is
+      | else-is_near w ↦ and_first _ _ _ _ c.is_near.ensures w.if-is_near.false w.near_a-is
+    ] in
     rw (← near_a, c.if-near_a.true)
 
 pub returns-else-near_a : goal.returns-else-near_a
@@ -26,10 +27,12 @@ unfolding collapses
 returns-else-near_a c =
     let near_a : c.if-is_near.near_a ≡ is_near c.args.a c.args.d c.args.h && is_near c.args.a c.args.c c.args.h =
     elim c.if-is_near.branch [
-      then-is_near w ↦ and_both _ _ _ _ _ c.is_near.ensures w.if-is_near.true w.is_near-near_a.ensures w.near_a-is
-    | else-is_near w ↦ and_first _ _ _ _ c.is_near.ensures w.if-is_near.false w.near_a-is ] in
+      | then-is_near w ↦ and_both _ _ _ _ _ c.is_near.ensures w.if-is_near.true w.is_near-near_a.ensures w.near_a-is
+      | else-is_near w ↦ and_first _ _ _ _ c.is_near.ensures w.if-is_near.false w.near_a-is
+    ] in
     let near_b : c.if-is_near-2.near_b ≡ is_near c.args.b c.args.d c.args.h && is_near c.args.b c.args.c c.args.h =
     elim c.if-is_near-2.branch [
-      then-is_near-2 w ↦ and_both _ _ _ _ _ c.is_near-2.ensures w.if-is_near-2.true w.is_near-near_b.ensures w.near_b-is
-    | else-is_near-2 w ↦ and_first _ _ _ _ c.is_near-2.ensures w.if-is_near-2.false w.near_b-is ] in
+      | then-is_near-2 w ↦ and_both _ _ _ _ _ c.is_near-2.ensures w.if-is_near-2.true w.is_near-near_b.ensures w.near_b-is
+      | else-is_near-2 w ↦ and_first _ _ _ _ c.is_near-2.ensures w.if-is_near-2.false w.near_b-is
+    ] in
     rw (← near_a, ← near_b, c.if-near_a.false)

@@ -17,12 +17,12 @@ site_count-k-requires c = c.requires.masked.0.sampled.fit
 
 pub loop-s-init : goal.loop-s-init
 unfolding start
-loop-s-init c =    let a = c.args in
+loop-s-init c = let a = c.args in
     let e = c.empty_table.ensures ∙ ap (λ x. replicate x none) c.requires.masked.1 in
     (walking_start a.frame a.n a.samples.now a.h a.cluster (flag_of a.flags.now) a.positions.now a.book.now _ _ refl refl e, c.site_count-k.ensures)
 
 pub draw_at-at-requires : goal.draw_at-at-requires
-draw_at-at-requires c =    let a = c.args in
+draw_at-at-requires c = let a = c.args in
     let at = c.loop-s in
     let l : at.s < sites a.n = omega (arith, at.invariant.1, c.loop-s-test.true) in
     record { masked = (c.requires.masked.0, record { sampled = c.requires.masked.0.sampled; low = l; table = omega (arith, at.invariant.0.long) }); ahead = walking_ahead a.frame a.n a.samples.now a.h a.cluster (flag_of a.flags.now) a.positions.now a.book.now at.s at.at at.table at.positions at.book at.invariant.0 c.requires.ahead l; cases_value = at.invariant.0.cases }
@@ -34,13 +34,13 @@ pub loop-s-smaller : goal.loop-s-smaller
 loop-s-smaller c = omega arith
 
 pub loop-s-preserved : goal.loop-s-preserved
-loop-s-preserved c =    let a = c.args in
+loop-s-preserved c = let a = c.args in
     let at = c.loop-s in
     let call = c.draw_at-at in
     let l : at.s < sites a.n = omega (arith, at.invariant.1, c.loop-s-test.true) in
     (walking-turn a.frame a.n a.samples.now a.h a.cluster (flag_of a.flags.now) a.positions.now a.book.now at.s at.at at.table at.positions at.book at.invariant.0 call.result _ _ _ l call.ensures.passed call.ensures.cases_value_2 call.auto.table, at.invariant.1)
 
 pub returns : goal.returns
-returns c =    let a = c.args in
+returns c = let a = c.args in
     let at = c.loop-s in
     walking-done a.frame a.n a.samples.now a.h a.cluster (flag_of a.flags.now) a.positions.now a.book.now at.s at.at at.table at.positions at.book at.invariant.0 (omega (arith, at.invariant.1, c.loop-s-test.false))

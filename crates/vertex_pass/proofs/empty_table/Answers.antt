@@ -25,7 +25,7 @@ loop-i-smaller c = omega arith
 
 pub loop-i-preserved : goal.loop-i-preserved
 unfolding none
-loop-i-preserved c =    let l = c.loop-i in
+loop-i-preserved c = let l = c.loop-i in
     let s₀ = c.args.table.now in
     (omega arith, length-set l.table l.i none ∙ l.invariant.1, rw l.invariant.2 (fill_more l.i none s₀ (omega arith)))
 
@@ -33,7 +33,7 @@ pub shape_of-table : goal.shape_of-table
 shape_of-table c = omega arith
 
 pub returns : goal.returns
-returns c =    let l = c.loop-i in
+returns c = let l = c.loop-i in
     let s₀ = c.args.table.now in
     let e : l.i ≡ length s₀ = omega arith in
     l.invariant.2 ∙ ap (λ n. replicate n none ++ drop n s₀) e ∙ ap (λ q. replicate (length s₀) none ++ q) (drop-length s₀) ∙ append-nil (replicate (length s₀) none)

@@ -23,7 +23,7 @@ sum-requires c = (
 )
 
 pub returns : goal.returns
-returns c =    let p = c.requires in
+returns c = let p = c.requires in
     let one = product _ _ _ _ _ p.ax_bound.0 p.bx_bound.1 p.bx_bound.2 p.cx_bound.1 p.cx_bound.2 _ _ c.minor.ensures c.times-p.ensures in
     let two = product _ _ _ _ _ p.bx_bound.0 p.cx_bound.1 p.cx_bound.2 p.ax_bound.1 p.ax_bound.2 _ _ c.minor-2.ensures c.times-q.ensures in
     let three = product _ _ _ _ _ p.cx_bound.0 p.ax_bound.1 p.ax_bound.2 p.bx_bound.1 p.bx_bound.2 _ _ c.minor-3.ensures c.times-r.ensures in
