@@ -1,6 +1,7 @@
 // A program's bytes: all of its input, from standard input or from the file that its last argument names, and its answer in one go; and the masks in lines
 // that programs print. What fails is said on standard error.
 #![tactic(auto)]
+
 ghost use Rattle.std.specs.Prelude.{◌≤◌, length, IfOk};
 ghost use Rattle.streams.specs.Counts.{IsPrefixLen};
 
