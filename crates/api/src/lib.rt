@@ -1,6 +1,7 @@
 // What C and Rust link: the build, PLY files, the volume, and three leaves for whoever measures. No function here asks anything of its caller but that each
 // list is as long as it says, that the lists do not overlap, and that the fixed ones have their entries.
 #![tactic(auto)]
+
 ghost use Rattle.std.specs.Prelude.{◌≡◌, ◌<◌};
 ghost use Rattle.marks.specs.Marks.{sample};
 ghost use Rattle.sort.specs.Order.{Sorts};
@@ -53,8 +54,7 @@ fn counts_of(a: Answer) -> [usize; 10]
 }
 
 // The build, inside being below -inside. The answer is the number of docs/SCOPE.md, S9.2: 0 done, else a refusal, which leaves the six lists as they were and gives ten zeros.
-#[unsafe(no_mangle)]
-pub extern "C" fn spoonthicket_build(
+pub fn spoonthicket_build(
     nu: usize,
     nv: usize,
     nw: usize,
@@ -104,8 +104,7 @@ fn ends_at(ends: &[f64; 14]) -> [Sample; 14]
 }
 
 // The topology test of one mask, with any threshold: the case's number; the clusters' masks, zeros behind them; and how many edges its walks took from their frontiers.
-#[unsafe(no_mangle)]
-pub extern "C" fn spoonthicket_topology(
+pub fn spoonthicket_topology(
     mask: u16,
     method: usize,
     inside: f64,
@@ -125,16 +124,14 @@ pub extern "C" fn spoonthicket_topology(
 }
 
 // How many edges the walks over a mask take, before any is made.
-#[unsafe(no_mangle)]
-pub extern "C" fn spoonthicket_visits(mask: u16) -> usize
+pub fn spoonthicket_visits(mask: u16) -> usize
     ensures { result ≡ visits «mask» }
 {
     topology::visit_total(mask)
 }
 
 // Sorts records of three words by all three; words past the last whole record stay.
-#[unsafe(no_mangle)]
-pub extern "C" fn spoonthicket_sort(words: &mut [u32])
+pub fn spoonthicket_sort(words: &mut [u32])
     ensures { Sorts words.old words.new }
 {
     sort::sort(words);
@@ -143,8 +140,7 @@ pub extern "C" fn spoonthicket_sort(words: &mut [u32])
 // ---- PLY files
 
 // How long the file of so many vertices and faces is; 0 where one of them is over 999,999,999 and there is no such file.
-#[unsafe(no_mangle)]
-pub extern "C" fn spoonthicket_ply_length(vertices: usize, faces: usize) -> usize
+pub fn spoonthicket_ply_length(vertices: usize, faces: usize) -> usize
     ensures { result ≡ file_length vertices faces }
 {
     ply_write::length_of(vertices, faces)
@@ -152,8 +148,7 @@ pub extern "C" fn spoonthicket_ply_length(vertices: usize, faces: usize) -> usiz
 
 // The file of the words and the triangles, put at the front of `out`. The answer is 0, or a refusal, 10 or 11, which leaves `out` as it was; `written` gets the
 // file's length, 0 on a refusal.
-#[unsafe(no_mangle)]
-pub extern "C" fn spoonthicket_ply_write(
+pub fn spoonthicket_ply_write(
     words: &[u64],
     triangles: &[u32],
     out: &mut [u8],
@@ -167,8 +162,7 @@ pub extern "C" fn spoonthicket_ply_write(
 }
 
 // The same for a mesh whose coordinates are floats, as the build leaves them: their bits are written.
-#[unsafe(no_mangle)]
-pub extern "C" fn spoonthicket_ply_mesh(
+pub fn spoonthicket_ply_mesh(
     vertices: &[f64],
     triangles: &[u32],
     out: &mut [u8],
@@ -182,8 +176,7 @@ pub extern "C" fn spoonthicket_ply_mesh(
 }
 
 // The numbers of vertices and faces of a file, zeros on a refusal, 9 or 10. Nothing else is stored.
-#[unsafe(no_mangle)]
-pub extern "C" fn spoonthicket_ply_sizes(file: &[u8], counts: &mut [usize; 2]) -> usize
+pub fn spoonthicket_ply_sizes(file: &[u8], counts: &mut [usize; 2]) -> usize
     ensures { PlySized file.now result counts.new }
 {
     let sized = ply::sizes(file);
@@ -192,8 +185,7 @@ pub extern "C" fn spoonthicket_ply_sizes(file: &[u8], counts: &mut [usize; 2]) -
 }
 
 // The words and the indices of a file, put at the fronts of the two lists. A refusal, 9, 10 or 11, leaves them as they were, and gives zeros.
-#[unsafe(no_mangle)]
-pub extern "C" fn spoonthicket_ply_read(
+pub fn spoonthicket_ply_read(
     file: &[u8],
     words: &mut [u64],
     triangles: &mut [u32],
@@ -218,8 +210,7 @@ fn whole_at(o: &[i64; 3]) -> Whole
 }
 
 // Six times the volume that the triangles enclose, in whole units. The answer is 0, or a refusal, 10, 12 or 13; `six` gets the sum, 0 on a refusal.
-#[unsafe(no_mangle)]
-pub extern "C" fn spoonthicket_volume(
+pub fn spoonthicket_volume(
     vertices: &[f64],
     triangles: &[u32],
     scale: f64,

@@ -2,14 +2,14 @@
 // The number that it prints is 0, 1, 2 (a side of 33 to 216), 4, 8 or 14: no input brings about another.
 #![tactic(auto)]
 
-fn main() {
+fn main(rt: HostRuntime) {
     let mut space = [0u8; count_file::ENOUGH];
-    let taken = streams::read(b"usage: count_main [FILE]\n", 1, &mut space);
+    let taken = streams::read(&rt, b"usage: count_main [FILE]\n", 1, &mut space);
     if taken.ok {
         let n = taken.length;
         let mut out = [0u8; count::ROOM];
         let k = count::count_text(&space[..n], &mut out);
-        streams::write(&out[..k]);
-        streams::finish(taken.fd);
+        streams::write(&rt, &out[..k]);
+        streams::finish(&rt, taken.from);
     }
 }

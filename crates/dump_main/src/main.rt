@@ -1,7 +1,8 @@
 // Reads a count file from standard input, or from the file that its one argument names, and prints the answer and then all that the build leaves behind, in the format of tools/oracle/FORMAT.md.
 // A build keeps no list of the clusters that it split, nor of the sites that it rolled back: both are read off the edge table and the vertex book.
 #![tactic(auto)]
-ghost use Rattle.std.specs.Prelude.{◌<◌, ◌≤◌, length};
+
+ghost use Rattle.std.specs.Prelude.{◌<◌, ◌≤◌, length, IfOk};
 ghost use Rattle.lattice.specs.Sites.{SidesFit, sites};
 ghost use Rattle.marks.specs.Inner.Loops.{Sampled};
 ghost use Rattle.file_build.specs.Asked.{head_sides};
@@ -9,50 +10,39 @@ ghost use Rattle.file_build.specs.Asked.{head_sides};
 use build::Answer;
 use count_file::Head;
 use lattice::Sides;
-use libc::STDOUT_FILENO;
-
-// ---- words of a line
-
-fn wide(x: u32) -> u64 {
-    x as u64
-}
-
-fn word(n: u64) {
-    io::write_all(STDOUT_FILENO, b" ");
-    io::print_decimal(STDOUT_FILENO, n);
-}
-
-fn float_word(x: f64) {
-    io::write_all(STDOUT_FILENO, b" ");
-    io::print_hex(STDOUT_FILENO, points::bits_of_float(x), 16);
-}
-
-fn end() {
-    io::write_all(STDOUT_FILENO, b"\n");
-}
+use std::io;
 
 // ---- masks and clusters
 
-fn show_mask(s: usize, m: u16) {
+fn show_mask(rt: &impl Print, s: usize, m: u16) -> io::Result<()> {
     if m != 0 {
-        io::write_all(STDOUT_FILENO, b"mask");
-        word(s as u64);
-        streams::mask_word(m);
-        end();
+        print!(rt; "mask {s}")?;
+        streams::mask_word(rt, m)?;
+        println!(rt)?;
     }
+    Ok(())
 }
 
-fn show_masks(masks: &[u16]) {
+fn show_masks(rt: &impl Print, masks: &[u16]) -> io::Result<()> {
     for s in 0..masks.len() {
-        show_mask(s, masks[s]);
+        show_mask(rt, s, masks[s])?;
     }
+    Ok(())
 }
 
-fn show_topology(n: Sides, samples: &[f64], h: f64, s: usize, m: u16, cluster: bool)
+fn show_topology(
+    rt: &impl Print,
+    n: Sides,
+    samples: &[f64],
+    h: f64,
+    s: usize,
+    m: u16,
+    cluster: bool,
+) -> io::Result<()>
     requires { Sampled n samples.now × (s < sites n) }
 {
     if m == 0 {
-        return;
+        return Ok(());
     }
     let ends = site_vertices::ends_of(n, samples, s);
     let r = topology::test_topology(m, cluster, ends, h);
@@ -60,50 +50,51 @@ fn show_topology(n: Sides, samples: &[f64], h: f64, s: usize, m: u16, cluster: b
     let clusters = r.clusters;
     let count = clusters.count;
     let masks = clusters.masks;
-    io::write_all(STDOUT_FILENO, b"topology");
-    word(s as u64);
-    word(topology::case_number(case) as u64);
-    word(count as u64);
-    streams::mask_words(count, masks);
-    end();
+    print!(rt; "topology {s} {} {count}", topology::case_number(case))?;
+    streams::mask_words(rt, count, masks)?;
+    println!(rt)
 }
 
-fn show_topologies(n: Sides, samples: &[f64], h: f64, masks: &[u16], cluster: bool)
+fn show_topologies(
+    rt: &impl Print,
+    n: Sides,
+    samples: &[f64],
+    h: f64,
+    masks: &[u16],
+    cluster: bool,
+) -> io::Result<()>
     requires { Sampled n samples.now × (length masks.now ≤ sites n) }
 {
     for s in 0..masks.len() {
-        show_topology(n, samples, h, s, masks[s], cluster);
+        show_topology(rt, n, samples, h, s, masks[s], cluster)?;
     }
+    Ok(())
 }
 
 // ---- cases of the tetrahedra
 
-fn show_cases(n: Sides, samples: &[f64], h: f64, s: usize)
+fn show_cases(rt: &impl Print, n: Sides, samples: &[f64], h: f64, s: usize) -> io::Result<()>
     requires { Sampled n samples.now × (s < sites n) }
 {
     let p = lattice::coordinates(n, s);
     let c = cases::site_cases(samples, n, p, h);
     if c[0] | c[1] | c[2] | c[3] | c[4] | c[5] == 0 {
-        return;
+        return Ok(());
     }
-    io::write_all(STDOUT_FILENO, b"tets");
-    word(s as u64);
-    word(c[0] as u64);
-    word(c[1] as u64);
-    word(c[2] as u64);
-    word(c[3] as u64);
-    word(c[4] as u64);
-    word(c[5] as u64);
-    end();
+    println!(rt;
+        "tets {s} {} {} {} {} {} {}",
+        c[0], c[1], c[2], c[3], c[4], c[5]
+    )
 }
 
-fn show_tets(n: Sides, samples: &[f64], h: f64)
+fn show_tets(rt: &impl Print, n: Sides, samples: &[f64], h: f64) -> io::Result<()>
     requires { Sampled n samples.now }
 {
     let k = lattice::site_count(n);
     for s in 0..k {
-        show_cases(n, samples, h, s);
+        show_cases(rt, n, samples, h, s)?;
     }
+    Ok(())
 }
 
 // ---- splits
@@ -149,31 +140,32 @@ fn held(n: Sides, table: &[u32], s: usize, mask: u16) -> usize
 
 // A cluster with p points is a candidate, unless p is 0. It has one vertex that was made with p edges; or, where it was split, p vertices with one edge each, and then
 // its number is printed. A build's book has all of them; the test of the book's end stands in for that proof.
-fn show_candidate(book: &[u32], w: Walk, p: usize) -> Walk
+fn show_candidate(rt: &impl Print, book: &[u32], w: Walk, p: usize) -> io::Result<Walk>
     requires { (w.candidate ≤ w.vertex) × (p ≤ 14) }
-    ensures { result.candidate ≤ result.vertex }
+    ensures { IfOk result (λ w. w.candidate ≤ w.vertex) }
 {
     let v = w.vertex;
     if p == 0 {
-        return w;
+        return Ok(w);
     }
     if v >= book.len() / 4 {
-        return w;
+        return Ok(w);
     }
-    if wide(book[4 * v + 2]) == p as u64 {
-        return Walk {
+    if book[4 * v + 2] as usize == p {
+        return Ok(Walk {
             candidate: w.candidate + 1,
             vertex: v + 1,
-        };
+        });
     }
-    word(w.candidate as u64);
-    Walk {
+    print!(rt; " {}", w.candidate)?;
+    Ok(Walk {
         candidate: w.candidate + 1,
         vertex: v + p,
-    }
+    })
 }
 
 fn show_site_splits(
+    rt: &impl Print,
     n: Sides,
     samples: &[f64],
     h: f64,
@@ -183,9 +175,9 @@ fn show_site_splits(
     m: u16,
     cluster: bool,
     from: Walk,
-) -> Walk
+) -> io::Result<Walk>
     requires { Sampled n samples.now × (s < sites n) × (from.candidate ≤ from.vertex) }
-    ensures { result.candidate ≤ result.vertex }
+    ensures { IfOk result (λ w. w.candidate ≤ w.vertex) }
 {
     let ends = site_vertices::ends_of(n, samples, s);
     let r = topology::test_topology(m, cluster, ends, h);
@@ -194,12 +186,13 @@ fn show_site_splits(
     let count = least(clusters.count, 14);
     let mut w = from;
     for i in 0..count {
-        w = show_candidate(book, w, held(n, table, s, masks[i]));
+        w = show_candidate(rt, book, w, held(n, table, s, masks[i]))?;
     }
-    w
+    Ok(w)
 }
 
 fn show_splits(
+    rt: &impl Print,
     n: Sides,
     samples: &[f64],
     h: f64,
@@ -208,106 +201,119 @@ fn show_splits(
     book: &[u32],
     cluster: bool,
     split: usize,
-)
+) -> io::Result<()>
     requires { Sampled n samples.now × (length masks.now ≤ sites n) }
 {
-    io::write_all(STDOUT_FILENO, b"split");
-    word(split as u64);
+    print!(rt; "split {split}")?;
     let mut w = Walk {
         candidate: 0,
         vertex: 0,
     };
     for s in 0..masks.len() {
-        w = show_site_splits(n, samples, h, table, book, s, masks[s], cluster, w);
+        w = show_site_splits(rt, n, samples, h, table, book, s, masks[s], cluster, w)?;
     }
-    end();
+    println!(rt)
 }
 
 // ---- rollback owners
 
 // A row of the book: its site is printed if the vertex was made in the round, and the site is not the last that was printed.
-fn show_owner(round: usize, site: u32, made: u32, last: u32) -> u32 {
-    if wide(made) != round as u64 || site == last {
-        return last;
+fn show_owner(rt: &impl Print, round: usize, site: u32, made: u32, last: u32) -> io::Result<u32> {
+    if made as usize != round || site == last {
+        return Ok(last);
     }
-    word(wide(site));
-    site
+    print!(rt; " {site}")?;
+    Ok(site)
 }
 
 // The sites rolled back in a round are those with vertices made in it, whose rows stand in site order.
-fn show_owners(book: &[u32], round: usize) {
-    io::write_all(STDOUT_FILENO, b"owners");
-    word(round as u64);
+fn show_owners(rt: &impl Print, book: &[u32], round: usize) -> io::Result<()> {
+    print!(rt; "owners {round}")?;
     let mut last = march::NONE;
     for v in 0..book.len() / 4 {
-        last = show_owner(round, book[4 * v], book[4 * v + 3], last);
+        last = show_owner(rt, round, book[4 * v], book[4 * v + 3], last)?;
     }
-    end();
+    println!(rt)
 }
 
-fn show_rounds(book: &[u32], rounds: usize) {
+fn show_rounds(rt: &impl Print, book: &[u32], rounds: usize) -> io::Result<()> {
     for r in 0..rounds {
-        show_owners(book, r + 1);
+        show_owners(rt, book, r + 1)?;
     }
+    Ok(())
 }
 
 // ---- edge table, positions, vertex book, triangles
 
-fn show_edge(i: usize, v: u32) {
+fn show_edge(rt: &impl Print, i: usize, v: u32) -> io::Result<()> {
     if v != march::NONE {
-        io::write_all(STDOUT_FILENO, b"edge");
-        word((i / 7) as u64);
-        word((i % 7) as u64);
-        word(wide(v));
-        end();
+        println!(rt; "edge {} {} {v}", i / 7, i % 7)?;
     }
+    Ok(())
 }
 
-fn show_edges(table: &[u32]) {
+fn show_edges(rt: &impl Print, table: &[u32]) -> io::Result<()> {
     for i in 0..table.len() {
-        show_edge(i, table[i]);
+        show_edge(rt, i, table[i])?;
     }
+    Ok(())
 }
 
-fn show_coordinate(i: usize, x: f64) {
+fn show_coordinate(rt: &impl Print, i: usize, x: f64) -> io::Result<()> {
     if i % 3 == 0 {
-        io::write_all(STDOUT_FILENO, b"position");
-        word((i / 3) as u64);
+        print!(rt; "position {}", i / 3)?;
     }
-    float_word(x);
+    print!(rt; " {:016x}", points::bits_of_float(x))?;
     if i % 3 == 2 {
-        end();
+        println!(rt)?;
     }
+    Ok(())
 }
 
-fn show_positions(positions: &[f64]) {
+fn show_positions(rt: &impl Print, positions: &[f64]) -> io::Result<()> {
     for i in 0..positions.len() {
-        show_coordinate(i, positions[i]);
+        show_coordinate(rt, i, positions[i])?;
     }
+    Ok(())
 }
 
 // Word i of rows of n words: before the first of a row its label, and its number where rows are numbered; LF after the last.
-fn show_word(label: &[u8], n: usize, numbered: bool, i: usize, x: u32)
+fn show_word(
+    rt: &impl Print,
+    label: &str,
+    n: usize,
+    numbered: bool,
+    i: usize,
+    x: u32,
+) -> io::Result<()>
     requires { 0 < n }
 {
     if i % n == 0 {
-        io::write_all(STDOUT_FILENO, label);
+        print!(rt; "{label}")?;
         if numbered {
-            word((i / n) as u64);
+            print!(rt; " {}", i / n)?;
         }
     }
-    word(wide(x));
+    print!(rt; " {x}")?;
     if i % n == n - 1 {
-        end();
+        println!(rt)?;
     }
+    Ok(())
 }
 
-fn show_rows(label: &[u8], n: usize, numbered: bool, words: &[u32])
+fn show_rows(
+    rt: &impl Print,
+    label: &str,
+    n: usize,
+    numbered: bool,
+    words: &[u32],
+) -> io::Result<()>
     requires { 0 < n }
 {
     for i in 0..words.len() {
-        show_word(label, n, numbered, i, words[i]);
+        show_word(rt, label, n, numbered, i, words[i])?;
     }
+    Ok(())
 }
 
 // ---- the whole
@@ -318,27 +324,42 @@ fn least(a: usize, b: usize) -> usize
     if a < b { a } else { b }
 }
 
-fn show_lists(a: Answer, table: &[u32], positions: &[f64], book: &[u32], tris: &[u32]) {
+fn show_lists(
+    rt: &impl Print,
+    a: Answer,
+    table: &[u32],
+    positions: &[f64],
+    book: &[u32],
+    tris: &[u32],
+) -> io::Result<()> {
     let v = least(a.vertices, 2268);
     let p = least(3 * v, positions.len());
     let b = least(4 * v, book.len());
     let t = least(3 * least(a.triangles, 2592), tris.len());
-    show_edges(table);
-    show_positions(&positions[..p]);
-    show_rows(b"book", 4, true, &book[..b]);
-    show_rows(b"triangle", 3, false, &tris[..t]);
+    show_edges(rt, table)?;
+    show_positions(rt, &positions[..p])?;
+    show_rows(rt, "book", 4, true, &book[..b])?;
+    show_rows(rt, "triangle", 3, false, &tris[..t])
 }
 
-fn show_sites(n: Sides, samples: &[f64], h: f64, masks: &[u16], cluster: bool)
+fn show_sites(
+    rt: &impl Print,
+    n: Sides,
+    samples: &[f64],
+    h: f64,
+    masks: &[u16],
+    cluster: bool,
+) -> io::Result<()>
     requires { Sampled n samples.now × (length samples.now ≤ sites n) }
 {
     let k = least(samples.len(), masks.len());
-    show_masks(&masks[..k]);
-    show_topologies(n, samples, h, &masks[..k], cluster);
-    show_tets(n, samples, h);
+    show_masks(rt, &masks[..k])?;
+    show_topologies(rt, n, samples, h, &masks[..k], cluster)?;
+    show_tets(rt, n, samples, h)
 }
 
 fn show_changes(
+    rt: &impl Print,
     n: Sides,
     samples: &[f64],
     h: f64,
@@ -347,12 +368,13 @@ fn show_changes(
     table: &[u32],
     book: &[u32],
     cluster: bool,
-)
+) -> io::Result<()>
     requires { Sampled n samples.now × (length samples.now ≤ sites n) }
 {
     let k = least(samples.len(), masks.len());
     let b = least(4 * least(a.vertices, 2268), book.len());
     show_splits(
+        rt,
         n,
         samples,
         h,
@@ -361,12 +383,13 @@ fn show_changes(
         &book[..b],
         cluster,
         a.split,
-    );
-    show_rounds(&book[..b], a.rounds);
+    )?;
+    show_rounds(rt, &book[..b], a.rounds)
 }
 
 // All that a build has left, of a file of k sites.
 fn dump(
+    rt: &impl Print,
     head: Head,
     samples: &[f64],
     a: Answer,
@@ -375,7 +398,7 @@ fn dump(
     positions: &[f64],
     book: &[u32],
     tris: &[u32],
-)
+) -> io::Result<()>
     requires { Sampled (head_sides head) samples.now × (length samples.now ≤ sites (head_sides head)) }
 {
     let n = file_build::sides_of(head);
@@ -383,12 +406,12 @@ fn dump(
     let e = least(7 * least(samples.len(), count_file::SITES), table.len());
     let sizes = head.sizes;
     let cluster = sizes[3] == 1;
-    show_sites(n, samples, h, masks, cluster);
-    show_changes(n, samples, h, a, masks, &table[..e], book, cluster);
-    show_lists(a, &table[..e], positions, book, tris);
+    show_sites(rt, n, samples, h, masks, cluster)?;
+    show_changes(rt, n, samples, h, a, masks, &table[..e], book, cluster)?;
+    show_lists(rt, a, &table[..e], positions, book, tris)
 }
 
-fn show_file(input: &[u8]) {
+fn show_file(rt: &impl Print, input: &[u8]) -> io::Result<()> {
     let mut masks = [0u16; count_file::SITES];
     let mut table = [0u32; 1512];
     let mut positions = [0.0; 6804];
@@ -408,13 +431,14 @@ fn show_file(input: &[u8]) {
     let answer = built.answer;
     let mut out = [0u8; count::ROOM];
     let k = least(count::print(&mut out, file.sites, answer), count::ROOM);
-    io::write_all(STDOUT_FILENO, &out[..k]);
+    rt.write_all(&out[..k])?;
     if answer.status == 0 {
         let head = file.head;
         let bits = file.samples;
         let m = file.sites;
         let samples = file_build::floats_of(bits);
         dump(
+            rt,
             head,
             &samples[..m],
             answer,
@@ -423,16 +447,18 @@ fn show_file(input: &[u8]) {
             &positions,
             &book,
             &tris,
-        );
+        )?;
     }
+    Ok(())
 }
 
-fn main() {
+fn main(rt: HostRuntime) -> io::Result<()> {
     let mut space = [0u8; count_file::ENOUGH];
-    let taken = streams::read(b"usage: dump_main [FILE]\n", 1, &mut space);
+    let taken = streams::read(&rt, b"usage: dump_main [FILE]\n", 1, &mut space);
     if taken.ok {
         let n = taken.length;
-        show_file(&space[..n]);
-        streams::finish(taken.fd);
+        show_file(&rt, &space[..n])?;
+        streams::finish(&rt, taken.from);
     }
+    Ok(())
 }

@@ -1,6 +1,7 @@
 // The phases of a build and the sorted list of the sides under plain names, for the benchmark to link. This is no part of the library: the phases are inner
 // functions, and each wrapper asks of its caller what its phase asks.
 #![tactic(auto)]
+
 ghost use Rattle.std.specs.Prelude.{◌*◌, ◌-◌, ◌≡◌, true, ◌++◌, length, drop, replicate};
 ghost use Rattle.laws.specs.Triangles.{flat};
 ghost use Rattle.laws.specs.Written.{Written};
@@ -23,16 +24,14 @@ ghost use Rattle.phases.specs.Promises.{DrawnPlain};
 use lattice::Sides;
 use points::Point;
 
-#[unsafe(no_mangle)]
-pub extern "C" fn phase_count(nu: usize, nv: usize, nw: usize, samples: &[f64]) -> usize
+pub fn phase_count(nu: usize, nv: usize, nw: usize, samples: &[f64]) -> usize
     requires { Sampled (record { nu = nu; nv = nv; nw = nw }) samples.now }
     ensures { result ≡ crossed_count (record { nu = nu; nv = nv; nw = nw }) samples.now base }
 {
     marks::count_crossed(Sides { nu, nv, nw }, samples, samples::INSIDE)
 }
 
-#[unsafe(no_mangle)]
-pub extern "C" fn phase_mark(nu: usize, nv: usize, nw: usize, samples: &[f64], masks: &mut [u16])
+pub fn phase_mark(nu: usize, nv: usize, nw: usize, samples: &[f64], masks: &mut [u16])
     requires { Room (record { nu = nu; nv = nv; nw = nw }) samples.now masks.old }
     ensures { masks.new ≡ masks_of (record { nu = nu; nv = nv; nw = nw }) samples.now base ++ drop (sites (record { nu = nu; nv = nv; nw = nw })) masks.old }
 {
@@ -40,8 +39,7 @@ pub extern "C" fn phase_mark(nu: usize, nv: usize, nw: usize, samples: &[f64], m
 }
 
 // The whole pass with clusters, in the frame with origin 0 and steps of 1: how many vertices.
-#[unsafe(no_mangle)]
-pub extern "C" fn phase_draw(
+pub fn phase_draw(
     nu: usize,
     nv: usize,
     nw: usize,
@@ -82,8 +80,7 @@ pub extern "C" fn phase_draw(
     walk.pass.next
 }
 
-#[unsafe(no_mangle)]
-pub extern "C" fn phase_march(
+pub fn phase_march(
     nu: usize,
     nv: usize,
     nw: usize,
@@ -97,38 +94,33 @@ pub extern "C" fn phase_march(
     march::march_box(samples, table, tris, Sides { nu, nv, nw }, samples::INSIDE)
 }
 
-#[unsafe(no_mangle)]
-pub extern "C" fn phase_flag(tris: &[u32], room: &mut [u32], a: usize, m: usize) -> bool
+pub fn phase_flag(tris: &[u32], room: &mut [u32], a: usize, m: usize) -> bool
     requires { Flaggable tris.now room.old a × EndsFit tris.now room.old a × EndsUnder tris.now m }
     ensures { EndsFlagged tris.now a m room.old room.new result }
 {
     crowded::flag_ends(tris, room, a, m)
 }
 
-#[unsafe(no_mangle)]
-pub extern "C" fn phase_clear(room: &mut [u32])
+pub fn phase_clear(room: &mut [u32])
     ensures { room.new ≡ replicate (length room.old) 0 }
 {
     sort::clear(room);
 }
 
-#[unsafe(no_mangle)]
-pub extern "C" fn bench_fill(tris: &[u32], room: &mut [u32])
+pub fn bench_fill(tris: &[u32], room: &mut [u32])
     requires { edges.Room tris.now room.old }
     ensures { room.new ≡ edges.filled tris.now room.old }
 {
     pairs::fill(tris, room);
 }
 
-#[unsafe(no_mangle)]
-pub extern "C" fn bench_sort(s: &mut [u32])
+pub fn bench_sort(s: &mut [u32])
     ensures { Sorts s.old s.new }
 {
     sort::sort(s);
 }
 
-#[unsafe(no_mangle)]
-pub extern "C" fn bench_over_sides(tris: &[u32], room: &mut [u32])
+pub fn bench_over_sides(tris: &[u32], room: &mut [u32])
     requires { edges.Room tris.now room.old }
     ensures { room.new ≡ crowded_room tris.now room.old }
 {

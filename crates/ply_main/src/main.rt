@@ -2,14 +2,14 @@
 // where the count program would refuse.
 #![tactic(auto)]
 
-fn main() {
+fn main(rt: HostRuntime) {
     let mut space = [0u8; count_file::ENOUGH];
-    let taken = streams::read(b"usage: ply_main [FILE]\n", 1, &mut space);
+    let taken = streams::read(&rt, b"usage: ply_main [FILE]\n", 1, &mut space);
     if taken.ok {
         let n = taken.length;
         let mut out = [0u8; 88316];
         let k = ply_file::ply_text(&space[..n], &mut out);
-        streams::write(&out[..k]);
-        streams::finish(taken.fd);
+        streams::write(&rt, &out[..k]);
+        streams::finish(&rt, taken.from);
     }
 }

@@ -1,6 +1,9 @@
 // Prints the bits of places, edge points and means at generated inputs, and of edge points between samples near the threshold: its stdout is that of tools/points_reference.py.
 #![tactic(auto)]
+
 ghost use Rattle.std.specs.Prelude.{◌≤◌, ◌<◌};
+
+use std::io;
 
 // The next number of the generator.
 fn next(x: u64) -> u64 {
@@ -82,15 +85,21 @@ fn site(x: u64) -> lattice::Uvw
     }
 }
 
-fn show(n: u64) {
-    io::print_hex(1, n, 16);
-    io::write_all(1, b"\n");
+fn show(rt: &impl Print, n: u64) -> io::Result<()> {
+    println!(rt; "{n:016x}")
 }
 
-fn show_point(p: points::Point) {
-    show(points::bits_of_float(p.x));
-    show(points::bits_of_float(p.y));
-    show(points::bits_of_float(p.z));
+fn show_point(rt: &impl Print, p: points::Point) -> io::Result<()> {
+    show(rt, points::bits_of_float(p.x))?;
+    show(rt, points::bits_of_float(p.y))?;
+    show(rt, points::bits_of_float(p.z))
+}
+
+fn show_edge(rt: &impl Print, r: points::EdgePoint) -> io::Result<()> {
+    match r {
+        points::EdgePoint::Missing => show(rt, 0xffff),
+        points::EdgePoint::At(q) => show_point(rt, q),
+    }
 }
 
 // The mean of n points.
@@ -99,18 +108,16 @@ fn mean_of(x: u64, n: u32, mode: u64) -> points::Point
 {
     let mut y = x;
     let mut s = points::no_points();
-    let mut i: u32 = 0;
-    while i < n {
+    for _ in 0..n {
         let p = three(y, mode);
         s = points::with_point(s, p);
         y = after_three(y);
-        i += 1;
     }
     points::mean(s)
 }
 
 // One frame, two sites, two samples, up to fourteen points.
-fn run(x: u64, mode: u64) -> u64
+fn run(rt: &impl Print, x: u64, mode: u64) -> io::Result<u64>
     requires { mode < 2 }
 {
     let a = after_three(x);
@@ -119,21 +126,16 @@ fn run(x: u64, mode: u64) -> u64
     let d = next(c);
     let e = next(d);
     let frame = points::frame_of(three(x, mode), three(a, mode + mode));
-    if points::frame_ok(frame) {
-        show(1);
-    } else {
-        show(0);
-    }
+    show(rt, u64::from(points::frame_ok(frame)))?;
     let from = site(c);
     let to = site(d);
-    show_point(points::position_of(frame, from));
-    let r = points::edge_point(frame, from, to, real(d, 0), real(e, 0));
-    match r {
-        points::EdgePoint::Missing => show(0xffff),
-        points::EdgePoint::At(q) => show_point(q),
-    }
-    show_point(mean_of(e, (e % 14) as u32 + 1, mode));
-    next(e)
+    show_point(rt, points::position_of(frame, from))?;
+    show_edge(
+        rt,
+        points::edge_point(frame, from, to, real(d, 0), real(e, 0)),
+    )?;
+    show_point(rt, mean_of(e, (e % 14) as u32 + 1, mode))?;
+    Ok(next(e))
 }
 
 // A sample near the threshold: up to eight floats from -1.0e-9 either way.
@@ -142,40 +144,37 @@ fn close(x: u64) -> f64 {
 }
 
 // The point between two such samples, whose fraction is often far below 0 or above 1, in a frame of middling size.
-fn near(x: u64) -> u64 {
+fn near(rt: &impl Print, x: u64) -> io::Result<u64> {
     let a = after_three(x);
     let c = next(after_three(a));
     let d = next(c);
     let e = next(d);
     let frame = points::frame_of(three(x, 1), three(a, 2));
-    let r = points::edge_point(frame, site(c), site(d), close(d), close(e));
-    match r {
-        points::EdgePoint::Missing => show(0xffff),
-        points::EdgePoint::At(q) => show_point(q),
-    }
-    next(e)
+    show_edge(
+        rt,
+        points::edge_point(frame, site(c), site(d), close(d), close(e)),
+    )?;
+    Ok(next(e))
 }
 
-fn frames(seed: u64) -> u64 {
+fn frames(rt: &impl Print, seed: u64) -> io::Result<u64> {
     let mut x = seed;
-    let mut k: u32 = 0;
-    while k < 100 {
-        x = run(x, 0);
-        x = run(x, 1);
-        k += 1;
+    for _ in 0..100 {
+        x = run(rt, x, 0)?;
+        x = run(rt, x, 1)?;
     }
-    x
+    Ok(x)
 }
 
-fn edges(seed: u64) {
+fn edges(rt: &impl Print, seed: u64) -> io::Result<()> {
     let mut x = seed;
-    let mut k: u32 = 0;
-    while k < 100 {
-        x = near(x);
-        k += 1;
+    for _ in 0..100 {
+        x = near(rt, x)?;
     }
+    Ok(())
 }
 
-fn main() {
-    edges(frames(0x9e37_79b9_7f4a_7c15));
+fn main(rt: HostRuntime) -> io::Result<()> {
+    let seed = frames(&rt, 0x9e37_79b9_7f4a_7c15)?;
+    edges(&rt, seed)
 }

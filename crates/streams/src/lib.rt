@@ -1,143 +1,164 @@
 // A program's bytes: all of its input, from standard input or from the file that its last argument names, and its answer in one go; and the masks in lines
 // that programs print. What fails is said on standard error.
 #![tactic(auto)]
-ghost use Rattle.std.specs.Prelude.{◌≤◌, length};
-ghost use Rattle.io.specs.Counts.{IsPrefixLen};
 
-use libc::{STDERR_FILENO, STDIN_FILENO, STDOUT_FILENO};
+ghost use Rattle.std.specs.Prelude.{◌≤◌, length, IfOk};
+ghost use Rattle.streams.specs.Counts.{IsPrefixLen};
 
-// How many bytes of fd were put at the front of a buffer, and whether that went well.
-#[derive(Clone, Copy)]
+use std::env::{Env, FillError};
+use std::fs::File;
+use std::io;
+use std::io::Read;
+
+// Where the input comes from.
+#[derive(Drop)]
+pub enum Source {
+    Nowhere,
+    Stdin,
+    Named(File),
+}
+
+// How many bytes of a source were put at the front of a buffer, and whether that went well.
+#[derive(Drop)]
 pub struct Taken {
     pub ok: bool,
     pub length: usize,
-    pub fd: i32,
+    pub from: Source,
 }
 
-// One read. No bytes and ok: the input has ended.
-fn take_some(fd: i32, part: &mut [u8]) -> Taken
-    ensures { result.length ≤ length part.new }
+// How the program is called, said where it was called otherwise.
+pub fn say(rt: &HostRuntime, usage: &[u8]) {
+    let _ = io::Print::write_all(&rt.stderr(), usage);
+}
+
+// What failed, and why.
+fn fail(rt: &HostRuntime, what: &[u8], error: io::Error) {
+    say(rt, what);
+    let _ = eprintln!(rt; ": {error}");
+}
+
+// One read. No bytes: the input has ended.
+fn take_some(rt: &HostRuntime, from: &mut Source, part: &mut [u8]) -> io::Result<usize>
+    ensures { IfOk result (λ n. n ≤ length part.new) }
 {
-    let got = libc::read(fd, part);
-    Taken {
-        ok: got >= 0,
-        length: io::count(got, part),
-        fd,
+    match from {
+        Source::Nowhere => Ok(0),
+        Source::Stdin => rt.stdin().read(part),
+        Source::Named(file) => file.read(part),
     }
 }
 
-// The bytes of fd, to its end or until there is no room.
-fn take_all(fd: i32, space: &mut [u8]) -> Taken
+// The bytes of a source, to its end or until there is no room.
+fn take_all(rt: &HostRuntime, mut from: Source, space: &mut [u8]) -> Taken
     ensures { IsPrefixLen result.length space.new }
 {
     let mut at = 0usize;
     while at < space.len() {
-        let some = take_some(fd, &mut space[at..]);
-        if some.length == 0 {
-            return Taken {
-                ok: some.ok,
-                length: at,
-                fd,
-            };
+        match take_some(rt, &mut from, &mut space[at..]) {
+            Ok(0) => break,
+            Ok(n) => at += n,
+            Err(error) => {
+                fail(rt, b"the input", error);
+                return Taken {
+                    ok: false,
+                    length: at,
+                    from,
+                };
+            }
         }
-        at += some.length;
     }
     Taken {
         ok: true,
         length: at,
-        fd,
+        from,
     }
 }
 
-// How the program is called, said where it was called otherwise.
-pub fn say(usage: &[u8]) {
-    io::write_all(STDERR_FILENO, usage);
+// The file of that name, open. A name is UTF-8 text.
+fn open_file(rt: &HostRuntime, path: &[u8]) -> io::Result<File> {
+    match str::from_utf8(path) {
+        Ok(name) => File::open(rt, name),
+        Err(_) => Err(io::Error::from(io::ErrorKind::InvalidFilename)),
+    }
 }
 
-// The file that argument i names, open; or -1.
-fn open_named(i: usize) -> i32 {
-    let mut path = io::buffer();
-    let n = os::arg(i, &mut path);
-    let fd = os::open_read(&path[..n]);
-    if fd < 0 {
-        os::fail(&path[..n]);
+// The file that argument i names, open.
+fn open_named(rt: &HostRuntime, i: usize) -> Option<Source> {
+    let mut path = [0u8; 4096];
+    let n = rt.arg(i, &mut path).unwrap_or(0);
+    match open_file(rt, &path[..n]) {
+        Ok(file) => Some(Source::Named(file)),
+        Err(error) => {
+            fail(rt, &path[..n], error);
+            None
+        }
     }
-    fd
+}
+
+// Whether the program was given an argument i; argument 0 is its own name.
+fn has_argument(rt: &HostRuntime, i: usize) -> bool {
+    !matches!(rt.arg(i, &mut []), Err(FillError::NotPresent))
 }
 
 // The file that argument i names, where there is one and it is the last; standard input where there are fewer.
-fn open(usage: &[u8], i: usize) -> i32 {
-    let words = os::arg_count();
-    if words <= i {
-        return STDIN_FILENO;
+fn open(rt: &HostRuntime, usage: &[u8], i: usize) -> Option<Source> {
+    if !has_argument(rt, i) {
+        return Some(Source::Stdin);
     }
-    if words - i > 1 {
-        say(usage);
-        return -1;
+    if has_argument(rt, i.saturating_add(1)) {
+        say(rt, usage);
+        return None;
     }
-    open_named(i)
+    open_named(rt, i)
 }
 
 // The program's input, at the front of `space`: the file that argument i names, if there is one, else standard input. Where it is longer, its first bytes. Not
 // ok where it could not be read: then no answer about it is to be given.
-pub fn read(usage: &[u8], i: usize, space: &mut [u8]) -> Taken
+pub fn read(rt: &HostRuntime, usage: &[u8], i: usize, space: &mut [u8]) -> Taken
     ensures { IsPrefixLen result.length space.new }
 {
-    let fd = open(usage, i);
-    if fd < 0 {
-        return Taken {
+    match open(rt, usage, i) {
+        Some(from) => take_all(rt, from, space),
+        None => Taken {
             ok: false,
             length: 0,
-            fd,
-        };
+            from: Source::Nowhere,
+        },
     }
-    let taken = take_all(fd, space);
-    if taken.ok {
-        return taken;
-    }
-    os::fail(b"the input");
-    taken
 }
 
 // The program's answer, written in one go.
-pub fn write(answer: &[u8]) {
-    if io::write_all(STDOUT_FILENO, answer) {
-        return;
+pub fn write(rt: &HostRuntime, answer: &[u8]) {
+    if let Err(error) = io::Print::write_all(rt, answer) {
+        fail(rt, b"the answer", error);
     }
-    os::fail(b"the answer");
 }
 
 // Reads on to the end of the input, once it is answered, so that whoever writes it is not cut off; at most 65,536 times, up to 4 GB, so that an input
 // without an end is left.
-pub fn finish(fd: i32) {
-    let mut space = io::large_buffer();
-    let mut turns = 65536u64;
-    while turns > 0 {
-        let some = take_some(fd, &mut space);
-        if some.length == 0 {
-            return;
+pub fn finish(rt: &HostRuntime, mut from: Source) {
+    let mut space = [0u8; 65536];
+    for _ in 0..65536u64 {
+        match take_some(rt, &mut from, &mut space) {
+            Ok(0) | Err(_) => return,
+            Ok(_) => {}
         }
-        turns -= 1;
     }
 }
 
 // ---- words of a printed line
 
-fn wide(m: u16) -> u64 {
-    m as u64
-}
-
 // A mask after a blank, by its four hex digits.
-pub fn mask_word(m: u16) {
-    io::write_all(STDOUT_FILENO, b" ");
-    io::print_hex(STDOUT_FILENO, wide(m), 4);
+pub fn mask_word(rt: &impl Print, m: u16) -> io::Result<()> {
+    print!(rt; " {m:04x}")
 }
 
 // The first `count` of the masks.
-pub fn mask_words(count: usize, masks: [u16; 14]) {
+pub fn mask_words(rt: &impl Print, count: usize, masks: [u16; 14]) -> io::Result<()> {
     for i in 0..14 {
         if i < count {
-            mask_word(masks[i]);
+            mask_word(rt, masks[i])?;
         }
     }
+    Ok(())
 }

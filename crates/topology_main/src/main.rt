@@ -1,23 +1,18 @@
 // Prints the case and the clusters of every 61st mask, and the edges that the walks took, with samples at the ends that a fixed generator makes.
 // The generator goes through all masks and ends in order, so that the lines are those of a run over all masks.
 #![tactic(auto)]
+
 use samples::Sample;
+use std::io;
 
 const SEED: u64 = 1;
 
 const STEP: u16 = 61;
 
-fn wide(x: u16) -> u64 {
-    x as u64
-}
-
 // x times 6364136223846793005, and 1442695040888963407, modulo 2^64.
 fn next(x: u64) -> u64 {
-    let low = x % 0x100000000;
-    let high = x / 0x100000000;
-    let cross = std::num::wrapping_add_u64(low * 0x5851F42D, high * 0x4C957F2D);
-    let product = std::num::wrapping_add_u64(low * 0x4C957F2D, cross << 32);
-    std::num::wrapping_add_u64(product, 1442695040888963407)
+    x.wrapping_mul(6364136223846793005)
+        .wrapping_add(1442695040888963407)
 }
 
 // What the generator's top five bits stand for.
@@ -64,31 +59,26 @@ fn after(from: u64) -> u64 {
     x
 }
 
-fn show(mask: u16, ends: [Sample; 14]) {
+fn show(rt: &impl Print, mask: u16, ends: [Sample; 14]) -> io::Result<()> {
     let r = topology::test_topology(mask, true, ends, samples::INSIDE);
     let case = r.case;
     let clusters = r.clusters;
     let visits = r.visits;
     let count = clusters.count;
     let masks = clusters.masks;
-    io::print_hex(1, wide(mask), 4);
-    io::write_all(1, b" ");
-    io::print_decimal(1, topology::case_number(case) as u64);
-    io::write_all(1, b" ");
-    io::print_decimal(1, count as u64);
-    streams::mask_words(count, masks);
-    io::write_all(1, b" ");
-    io::print_decimal(1, visits as u64);
-    io::write_all(1, b"\n");
+    print!(rt; "{mask:04x} {} {count}", topology::case_number(case))?;
+    streams::mask_words(rt, count, masks)?;
+    println!(rt; " {visits}")
 }
 
-fn main() {
+fn main(rt: HostRuntime) -> io::Result<()> {
     let mut x = SEED;
     for mask in 0..16384u16 {
         if mask % STEP == 0 {
             let ends = samples(x);
-            show(mask, ends);
+            show(&rt, mask, ends)?;
         }
         x = after(x);
     }
+    Ok(())
 }
