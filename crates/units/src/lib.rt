@@ -23,8 +23,8 @@ pub enum Coordinate {
 // Of a float above 0 and below 2^64. Below 2^52 the sum with 2^52 has no room for a fraction, so it is rounded to a whole number; from there on every float is
 // whole.
 fn nearest_whole(x: f64) -> u64
-    requires fact_1 { T (Ieee.lt (fin false 0 (pos 0)) x) }
-    requires fact_2 { T (Ieee.lt x (fin false 1 (pos 64))) }
+    requires above_zero { T (Ieee.lt (fin false 0 (pos 0)) x) }
+    requires below_limit { T (Ieee.lt x (fin false 1 (pos 64))) }
     ensures { whole_of x ≡ some (pos result) }
 {
     if x < 4503599627370496.0 {

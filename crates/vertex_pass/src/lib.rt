@@ -141,9 +141,9 @@ fn draw_at(
 ) -> Walk
     requires masked { Masked n samples.now h masks.now × Drawable n samples.now table.old s }
     requires ahead { Ahead (flag_of flags.now) (site_vertices (box_of n samples.now h cluster) s) at.pass positions.old book.old }
-    requires cases_value { at.cases ≡ cases_to n samples.now h cluster s }
+    requires cases_before { at.cases ≡ cases_to n samples.now h cluster s }
     ensures passed { Passed frame n samples.now (flag_of flags.now) (site_vertices (box_of n samples.now h cluster) s) at.pass table.old positions.old book.old result.pass table.new positions.new book.new }
-    ensures cases_value_2 { result.cases ≡ cases_to n samples.now h cluster (s + 1) }
+    ensures cases_after { result.cases ≡ cases_to n samples.now h cluster (s + 1) }
 {
     let m = masks[s];
     if m == 0 {

@@ -7,7 +7,7 @@ use Rattle.units.proofs.coordinate_of.Goals as goal
 
 pub nearest_whole-n-requires : goal.nearest_whole-n-requires
 unfolding of_bits
-nearest_whole-n-requires c = record { fact_1 = subst T (sym c.if-y.true) tt; fact_2 = subst T (sym c.if-y-2.true) tt }
+nearest_whole-n-requires c = record { above_zero = subst T (sym c.if-y.true) tt; below_limit = subst T (sym c.if-y-2.true) tt }
 
 pub returns-then-y-2 : goal.returns-then-y-2
 unfolding of_bits signed
@@ -19,7 +19,7 @@ returns-then-y c = above_far (mul binary64 c.args.x c.args.scale) c.args.o c.ran
 
 pub nearest_whole-n-requires-then-z : goal.nearest_whole-n-requires-then-z
 unfolding of_bits
-nearest_whole-n-requires-then-z c = record { fact_1 = subst T (sym (below_turned (mul binary64 c.args.x c.args.scale) c.if-y-3.true)) tt; fact_2 = subst T (sym c.if-z.true) tt }
+nearest_whole-n-requires-then-z c = record { above_zero = subst T (sym (below_turned (mul binary64 c.args.x c.args.scale) c.if-y-3.true)) tt; below_limit = subst T (sym c.if-z.true) tt }
 
 pub returns-then-z : goal.returns-then-z
 unfolding of_bits

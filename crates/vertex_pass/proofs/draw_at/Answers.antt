@@ -13,13 +13,13 @@ use Rattle.vertex_pass.proofs.draw_at.Goals as goal
 pub returns-then-m-eq0 : goal.returns-then-m-eq0
 returns-then-m-eq0 c = let a = c.args in
     let z = sym (c.requires.masked.0.are a.s c.requires.masked.1.low) ∙ c.if-m-eq0.true in
-    record { passed = passed-same a.frame a.n a.samples.now (flag_of a.flags.now) (sym (site-none a.n a.samples.now a.h a.cluster a.s z)) (passed_none a.frame a.n a.samples.now (flag_of a.flags.now) a.at.pass a.table.now a.positions.now a.book.now); cases_value_2 = cases_none a.n a.samples.now a.h a.cluster a.s a.at.cases z c.requires.cases_value }
+    record { passed = passed-same a.frame a.n a.samples.now (flag_of a.flags.now) (sym (site-none a.n a.samples.now a.h a.cluster a.s z)) (passed_none a.frame a.n a.samples.now (flag_of a.flags.now) a.at.pass a.table.now a.positions.now a.book.now); cases_after = cases_none a.n a.samples.now a.h a.cluster a.s a.at.cases z c.requires.cases_before }
 
 pub tally-cases-requires : goal.tally-cases-requires
 tally-cases-requires c = let a = c.args in
     let n = c.case_number-j in
     let l : n.result < 6 = rw n.ensures (number-low a.n a.samples.now a.h a.cluster a.s _) in
-    (l, omega (arith, cases_few a.n a.samples.now a.h a.cluster a.s a.at.cases n.result c.requires.cases_value l, c.requires.masked.1.low, sites-most a.n c.requires.masked.0.sampled.fit))
+    (l, omega (arith, cases_few a.n a.samples.now a.h a.cluster a.s a.at.cases n.result c.requires.cases_before l, c.requires.masked.1.low, sites-most a.n c.requires.masked.0.sampled.fit))
 
 pub draw_site-pass-requires : goal.draw_site-pass-requires
 draw_site-pass-requires c = let a = c.args in
@@ -33,4 +33,4 @@ returns c = let a = c.args in
     let e = found-is a.n a.samples.now a.h a.cluster a.s _ c.ends_of-ends.result t.result (c.requires.masked.0.are a.s c.requires.masked.1.low) c.ends_of-ends.ensures t.ensures in
     let w = c.draw_site-pass in
     let j = c.case_number-j in
-    record { passed = passed-same a.frame a.n a.samples.now (flag_of a.flags.now) (sym (site-found a.n a.samples.now a.h a.cluster a.s t.result e)) w.ensures; cases_value_2 = cases_one a.n a.samples.now a.h a.cluster a.s a.at.cases c.tally-cases.result j.result (λ z. c.if-m-eq0.false (c.requires.masked.0.are a.s c.requires.masked.1.low ∙ z)) c.requires.cases_value (j.ensures ∙ ap (λ (x : TopologyResult). case_number x.case) e) c.tally-cases.ensures }
+    record { passed = passed-same a.frame a.n a.samples.now (flag_of a.flags.now) (sym (site-found a.n a.samples.now a.h a.cluster a.s t.result e)) w.ensures; cases_after = cases_one a.n a.samples.now a.h a.cluster a.s a.at.cases c.tally-cases.result j.result (λ z. c.if-m-eq0.false (c.requires.masked.0.are a.s c.requires.masked.1.low ∙ z)) c.requires.cases_before (j.ensures ∙ ap (λ (x : TopologyResult). case_number x.case) e) c.tally-cases.ensures }

@@ -25,7 +25,7 @@ pub draw_at-at-requires : goal.draw_at-at-requires
 draw_at-at-requires c = let a = c.args in
     let at = c.loop-s in
     let l : at.s < sites a.n = omega (arith, at.invariant.1, c.loop-s-test.true) in
-    record { masked = (c.requires.masked.0, record { sampled = c.requires.masked.0.sampled; low = l; table = omega (arith, at.invariant.0.long) }); ahead = walking_ahead a.frame a.n a.samples.now a.h a.cluster (flag_of a.flags.now) a.positions.now a.book.now at.s at.at at.table at.positions at.book at.invariant.0 c.requires.ahead l; cases_value = at.invariant.0.cases }
+    record { masked = (c.requires.masked.0, record { sampled = c.requires.masked.0.sampled; low = l; table = omega (arith, at.invariant.0.long) }); ahead = walking_ahead a.frame a.n a.samples.now a.h a.cluster (flag_of a.flags.now) a.positions.now a.book.now at.s at.at at.table at.positions at.book at.invariant.0 c.requires.ahead l; cases_before = at.invariant.0.cases }
 
 pub overflow_step-s : goal.overflow_step-s
 overflow_step-s c = omega arith
@@ -38,7 +38,7 @@ loop-s-preserved c = let a = c.args in
     let at = c.loop-s in
     let call = c.draw_at-at in
     let l : at.s < sites a.n = omega (arith, at.invariant.1, c.loop-s-test.true) in
-    (walking-turn a.frame a.n a.samples.now a.h a.cluster (flag_of a.flags.now) a.positions.now a.book.now at.s at.at at.table at.positions at.book at.invariant.0 call.result _ _ _ l call.ensures.passed call.ensures.cases_value_2 call.auto.table, at.invariant.1)
+    (walking-turn a.frame a.n a.samples.now a.h a.cluster (flag_of a.flags.now) a.positions.now a.book.now at.s at.at at.table at.positions at.book at.invariant.0 call.result _ _ _ l call.ensures.passed call.ensures.cases_after call.auto.table, at.invariant.1)
 
 pub returns : goal.returns
 returns c = let a = c.args in
