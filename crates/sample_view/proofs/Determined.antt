@@ -11,7 +11,7 @@ use Rattle.sample_view.specs.declared.SampleView.{SampleView}
 use Rattle.sample_view.specs.View.{value_at, value_uvw, value_across}
 use Rattle.sample_view.proofs.value_at.Reads as value-at
 use Rattle.sample_view.proofs.value_uvw.Reads as value-uvw
-use Rattle.sample_view.proofs.value_across.Reads as value_across_lem
+use Rattle.sample_view.proofs.value_across.Reads as value-across
 use Rattle.sample_view.proofs.sample_uvw.Reads as sample-uvw
 
 pub value_at_determined : OneAnswer value-at.Post
@@ -20,13 +20,13 @@ value_at_determined κ a y z e f p q = p ∙ sym q
 pub value_uvw_determined : OneAnswer value-uvw.Post
 value_uvw_determined κ a y z e f p q = p ∙ sym q
 
-pub value_across_determined : OneAnswer value_across_lem.Post
+pub value_across_determined : OneAnswer value-across.Post
 value_across_determined κ a y z e f p q = p ∙ sym q
 
 pub sample_uvw_determined : OneAnswer sample-uvw.Post
 sample_uvw_determined κ a y z e f p q = p ∙ sym q
 
--- The functions over a view are proved by a walk, and the check makes no plain form of what they promise: here it is written out.
+-- What the functions over a view promise, of the parts of the view.
 
 pub view_of_determined : (s : Bor (List Float)) (n : Sides) (r q : SampleView) → (r.samples ≡ s) × (r.sides ≡ n) → (q.samples ≡ s) × (q.sides ≡ n) → r ≡ q
 view_of_determined s n r q a b = λ i. record { samples = (a.0 ∙ sym b.0) i; sides = (a.1 ∙ sym b.1) i }

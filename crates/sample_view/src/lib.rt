@@ -1,5 +1,5 @@
 // The sample view: the caller's samples together with the sides of the box, and the value at a site, at (u, v, w) and across an edge.
-// The lookups on a plain slice are covered; the functions over the struct are thin, and their proofs are walks by hand.
+// The lookups stand on a plain slice; the functions over the struct are thin.
 #![tactic(auto)]
 
 ghost use Rattle.std.specs.Prelude.{◌≡◌};
