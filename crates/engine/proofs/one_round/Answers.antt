@@ -3,6 +3,7 @@ use Rattle.engine.proofs.Rounds.{round_low, round_flaggable, round_fits, round_u
 use Rattle.lattice.proofs.Sites.{cells-most}
 use lib.Seq.{length-take-le}
 use native.Mathlib.Omega.{arith}
+use mathlib.Core.Path.{refl, sym}
 use Rattle.engine.proofs.one_round.Goals as goal
 
 pub overflow_mul-w : goal.overflow_mul-w
