@@ -54,15 +54,15 @@ module _ (n : Sides) (S : List Float) (h : Float) (cluster : Bool) (o : Bool) (f
   -- ---- every other grouping: any lookup that gives each crossed edge a vertex
 
   module _ (g : ℕ → ℕ → ℕ) (k : (s l : ℕ) → s < sites n → l < 7 → is_crossed n S h s l ≡ true → g s l ≢ none) where
-    named : (u v w l : ℕ) → crossed (field_of (box_of n S h cluster) []) u v w l ≡ true → g (site_of n u v w) l ≢ none
-    named u v w l c =
-        let d = crossed_label n S h cluster [] u v w l c in
-        k (site_of n u v w) l (site_in u v w d.1) d.0 (sym (crossed-is n S h cluster [] u v w l d.1 d.0) ∙ c)
-
-    grouped_fit : Fit (renamed (field_of (box_of n S h cluster) []) g) o
-    unfolding field_of box_of AllFinite OneSide side_at vertex_at crossed renamed
-    grouped_fit = record { finite = λ u v w i. F (site_of n u v w) (site_in u v w i); border = B; named = named }
-
     pub grouping_closed : (p q : ℕ)
         → count (runs p q) (march (renamed (field_of (box_of n S h cluster) []) g)) ≡ count (runs q p) (march (renamed (field_of (box_of n S h cluster) []) g))
-    grouping_closed p q = balance (renamed (field_of (box_of n S h cluster) []) g) o grouped_fit p q
+    unfolding field_of box_of AllFinite OneSide side_at vertex_at crossed renamed
+    grouping_closed p q =
+        balance (renamed (field_of (box_of n S h cluster) []) g) o
+        (record {
+          finite = λ u v w i. F (site_of n u v w) (site_in u v w i);
+          border = B;
+          named = λ u v w l c. (let d = crossed_label n S h cluster [] u v w l c in
+              k (site_of n u v w) l (site_in u v w d.1) d.0 (sym (crossed-is n S h cluster [] u v w l d.1 d.0) ∙ c));
+        })
+        p q

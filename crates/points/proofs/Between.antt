@@ -26,7 +26,7 @@ use Rattle.points.proofs.Fraction.{Part, part, part-under, held-unit}
 use Rattle.points.proofs.Order.{sides_differ}
 use Rattle.points.proofs.Casts.{ijk_small}
 use Rattle.points.proofs.Limits.{position-under}
-use Rattle.points.proofs.Finite.{known}
+use Rattle.points.proofs.Reach.{known}
 
 between-up : (a x b : Float) → T (le a x) → T (le x b) → between a x b ≡ true
 unfolding between

@@ -2,8 +2,8 @@
 use Prim.Native.Nat.{ℕ, suc, ◌+◌, ◌*◌, ◌^◌, ◌≤◌}
 use native.Mathlib.Nat.{mul-one, one-mul, le_trans, le_of_eq, mul-le-mul_right}
 use native.Mathlib.Omega.{arith}
-use mathlib.Core.Path.{◌≡◌, refl, sym, ap, subst, ◌∙◌}
-use mathlib.Core.Bool.{Bool, true, false, ◌&&◌, beq, cond, false≢true}
+use mathlib.Core.Path.{◌≡◌, refl, sym, ap, ◌∙◌}
+use mathlib.Core.Bool.{true, false, beq}
 use mathlib.Core.List.{List, [], ◌∷◌}
 use lib.IntN.{pos}
 use lib.Dec.{T, lit≤, lit<}
@@ -17,20 +17,16 @@ use Rattle.lattice.specs.declared.Sides.{Sides}
 use Rattle.lattice.specs.Sites.{SidesFit, InBox, ijk_of}
 use Rattle.points.specs.declared.Point.{Point}
 use Rattle.points.specs.declared.Frame.{Frame}
-use Rattle.points.specs.declared.EdgePoint.{EdgePoint}
-use Rattle.points.specs.declared.EdgePoint.TheVariants.{Missing, At}
+use Rattle.points.specs.declared.EdgePoint.TheVariants.{At}
 use Rattle.points.specs.Positions.{position}
 use Rattle.points.specs.Limits.{frame_ok}
 use Rattle.points.specs.EdgePoints.{interpolate, edge_point}
 use Rattle.points.specs.Means.{zeros, plus, times, total, share, mean_of, sum_of, mean_sum}
-use Rattle.points.specs.Finite.{Under, PointUnder, finite_point, has_finite_point, Low, OnEdge, first_end, second_end, AllOnEdges, end, next}
+use Rattle.points.specs.Finite.{Under, PointUnder, finite_point, has_finite_point, Low, OnEdge, AllOnEdges, end, next}
 use Rattle.points.proofs.Sizes.{under_more, under-finite, add-under, mul-under}
-use Rattle.points.proofs.Casts.{ijk_small}
-use Rattle.points.proofs.Limits.{position-under, interpolate-under}
 use Rattle.points.proofs.Gaps.{Units, round_least, fraction_under}
-use Rattle.points.proofs.Fraction.{held-under}
-use Rattle.points.proofs.Order.{sides_differ}
 use Rattle.points.proofs.Means.{mean_sum_lem}
+use Rattle.points.proofs.Reach.{edge-under}
 
 pub under-finite_point : (p : Point) (k : ℕ) → PointUnder p k → finite_point p ≡ true
 unfolding finite_point
@@ -51,40 +47,6 @@ pub edge_at : (f : Frame) (a b : Ijk) (p q : Float) → finite p ≡ true → fi
     → edge_point f a b p q ≡ At (interpolate (position f a) (position f b) (point_fraction p q))
 unfolding edge_point
 edge_at f a b p q x y = rw (x, y)
-
--- and where there is a point, the samples are finite and it is that one
-pub record Known (f : Frame) (a b : Ijk) (p q : Float) (c : Point) : Type 0 where
-  pub p_finite : finite p ≡ true
-  pub q_finite : finite q ≡ true
-  pub is : interpolate (position f a) (position f b) (point_fraction p q) ≡ c
-
-abbrev there : EdgePoint → Bool
-there Missing = false
-there (At c) = true
-
-abbrev point-or : EdgePoint → Point → Point
-point-or Missing d = d
-point-or (At c) d = c
-
-pub known : (f : Frame) (a b : Ijk) (p q : Float) (c : Point) → edge_point f a b p q ≡ At c → Known f a b p q c
-unfolding edge_point
-known f a b p q c e = go (finite p) (finite q) refl refl e
-  where
-    go : (x y : Bool) → finite p ≡ x → finite q ≡ y → cond (x && y) (At (interpolate (position f a) (position f b) (point_fraction p q))) Missing ≡ At c → Known f a b p q c
-    go true true g h e = record { p_finite = g; q_finite = h; is = ap (λ (r : EdgePoint). point-or r c) e }
-    go true false g h e = absurd (false≢true (ap there e))
-    go false y g h e = absurd (false≢true (ap there e))
-
-pub edge-under : (f : Frame) (h : Float) (c : Point) → frame_ok f ≡ true → OnEdge f h c → PointUnder c 33
-edge-under f h c ok o =
-    let a = first_end o in
-    let b = second_end o in
-    let k = known f a b o.p o.q c o.is in
-    subst (λ (r : Point). PointUnder r 33) k.is
-    (interpolate-under (position f a) (position f b) (point_fraction o.p o.q) 0 (lit≤ tt)
-    (position-under f a ok (ijk_small o.a.u o.a.v o.a.w o.a_low.on_u o.a_low.on_v o.a_low.on_w))
-    (position-under f b ok (ijk_small o.b.u o.b.v o.b.w o.b_low.on_u o.b_low.on_v o.b_low.on_w))
-    (held-under o.p o.q o.p_fits o.q_fits k.p_finite k.q_finite (sides_differ o.p o.q h k.p_finite k.q_finite o.differ)))
 
 -- each point of a crossed edge
 pub on-edge-finite : (f : Frame) (h : Float) (c : Point) → frame_ok f ≡ true → OnEdge f h c → finite_point c ≡ true

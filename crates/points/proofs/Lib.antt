@@ -7,6 +7,7 @@ pub mod Gaps
 pub mod Fraction
 pub mod Order
 pub mod Means
+pub mod Reach
 pub mod Finite
 pub mod Bits
 pub mod Determined

@@ -5,6 +5,9 @@ use lines::Num;
 use std::io;
 use std::io::Read;
 
+// The most of a list that is read.
+const MOST: u64 = 1_048_576;
+
 fn answer(rt: &impl Print, input: &[u8]) -> io::Result<()> {
     let mut out = [0u8; count::ROOM];
     let k = count::count_text(input, &mut out);
@@ -32,6 +35,6 @@ fn replay(rt: &impl Print, list: &[u8]) -> io::Result<()> {
 
 fn main(rt: HostRuntime) -> io::Result<()> {
     let mut list = Vec::new(rt.alloc());
-    rt.stdin().read_to_end(&mut list)?;
+    rt.stdin().take(MOST).read_to_end(&mut list)?;
     replay(&rt, list.as_slice())
 }
