@@ -21,18 +21,14 @@ slice_bounds-positions-end c = let s = c.args in
     (mesh s.digits s.origin _ _ _ _ refl c.build_file-built.ensures c.if-status-ne0.false).room_positions
 
 pub slice_bounds-volume_of-end : goal.slice_bounds-volume_of-end
-slice_bounds-volume_of-end c = sym (length-take-le _ _ ((
-    let s = c.args in
-    (mesh s.digits s.origin _ _ _ _ refl c.build_file-built.ensures c.if-status-ne0.false).room_positions)))
+slice_bounds-volume_of-end c = sym (length-take-le _ _ (mesh c.args.digits c.args.origin _ _ _ _ refl c.build_file-built.ensures c.if-status-ne0.false).room_positions)
 
 pub slice_bounds-triangles-end : goal.slice_bounds-triangles-end
 slice_bounds-triangles-end c = let s = c.args in
     (mesh s.digits s.origin _ _ _ _ refl c.build_file-built.ensures c.if-status-ne0.false).room_triangles
 
 pub slice_bounds-volume_of-end-2 : goal.slice_bounds-volume_of-end-2
-slice_bounds-volume_of-end-2 c = sym (length-take-le _ _ ((
-    let s = c.args in
-    (mesh s.digits s.origin _ _ _ _ refl c.build_file-built.ensures c.if-status-ne0.false).room_triangles)))
+slice_bounds-volume_of-end-2 c = sym (length-take-le _ _ (mesh c.args.digits c.args.origin _ _ _ _ refl c.build_file-built.ensures c.if-status-ne0.false).room_triangles)
 
 pub print-requires : goal.print-requires
 print-requires c = let s = c.args in
