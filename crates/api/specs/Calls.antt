@@ -1,8 +1,6 @@
 -- What a caller from C or Rust hands over, and what the counts list holds afterwards. Assumes nothing.
-use Rattle.std.specs.Prelude.{◌≡◌, List, [], ◌∷◌, ℕ, eqb, Float}
+use Rattle.std.specs.Prelude.{◌≡◌, List, [], ◌∷◌, ℕ, eqb, Float, Option, Some}
 use Rattle.laws.specs.Ranges.{each}
-use Rattle.samples.specs.declared.Sample.{Sample}
-use Rattle.samples.specs.declared.Sample.TheVariants.{Value}
 use Rattle.marks.specs.Marks.{sample}
 use Rattle.topology.specs.Topology.{topology_of, case_number}
 use Rattle.points.specs.declared.Frame.{Frame}
@@ -15,8 +13,8 @@ unfoldable pub frame_at : List Float → Frame
 frame_at f = frame_of (record { x = sample f 0; y = sample f 1; z = sample f 2 }) (record { x = sample f 3; y = sample f 4; z = sample f 5 })
 
 -- the values at the fourteen ends of a site; to the topology test one that is not finite is missing
-unfoldable pub ends_at : List Float → List Sample
-ends_at l = each 14 (λ e. Value (sample l e) ∷ [])
+unfoldable pub ends_at : List Float → List (Option Float)
+ends_at l = each 14 (λ e. Some (sample l e) ∷ [])
 
 -- ---- the promises
 

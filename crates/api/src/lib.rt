@@ -2,20 +2,20 @@
 // list is as long as it says, that the lists do not overlap, and that the fixed ones have their entries.
 #![tactic(auto)]
 
-ghost use Rattle.std.specs.Prelude.{◌≡◌, ◌<◌};
+ghost use Rattle.std.specs.Prelude.{◌≡◌, [], ◌∷◌, ◌<◌};
 ghost use Rattle.marks.specs.Marks.{sample};
 ghost use Rattle.sort.specs.Order.{Sorts};
 ghost use Rattle.topology.specs.Walk.{visits};
 ghost use Rattle.build.specs.Answer.{lists, counts_of};
 ghost use Rattle.ply_write.specs.Answers.{bits_of, file_length};
 ghost use Rattle.api.specs.Calls.{frame_at, ends_at, CallOf, TopologyTold};
-ghost use Rattle.api.specs.Files.{PlyWritten, PlyRead, PlySized};
+ghost use Rattle.api.specs.Files.{write_status, write_length, read_status, read_counts, PlyWritten, PlyRead, PlySized};
 ghost use Rattle.api.specs.Volumes.{whole_at, VolumeTold};
 
 use build::Answer;
 use lattice::Sides;
+use ply::Counts;
 use points::{Frame, Point};
-use samples::Sample;
 use volume::Whole;
 
 // Origin and step, three numbers each.
@@ -93,12 +93,12 @@ pub fn spoonthicket_build(
 }
 
 // Fourteen values as the topology test takes them: to it, one that is not finite is missing.
-fn ends_at(ends: &[f64; 14]) -> [Sample; 14]
+fn ends_at(ends: &[f64; 14]) -> [Option<f64>; 14]
     ensures { result ≡ ends_at ends.now }
 {
-    let mut known = [Sample::Missing; 14];
+    let mut known = [None; 14];
     for e in 0..14 {
-        known[e] = Sample::Value(ends[e]);
+        known[e] = Some(ends[e]);
     }
     known
 }
@@ -139,6 +139,40 @@ pub fn spoonthicket_sort(words: &mut [u32])
 
 // ---- PLY files
 
+// What C is told of a writer's answer: 0 and the file's length, or the refusal's number and 0.
+fn tell_written(wrote: Result<usize, ply_write::Refusal>, written: &mut [usize; 1]) -> usize
+    ensures status { result ≡ write_status wrote }
+    ensures length { written.new ≡ write_length wrote ∷ [] }
+{
+    match wrote {
+        Ok(length) => {
+            *written = [length];
+            0
+        }
+        Err(refusal) => {
+            *written = [0];
+            refusal.number()
+        }
+    }
+}
+
+// What C is told of a reader's answer: 0 and the counts, or the refusal's number and zeros.
+fn tell_counts(read: Result<Counts, ply::Refusal>, counts: &mut [usize; 2]) -> usize
+    ensures status { result ≡ read_status read }
+    ensures numbers { counts.new ≡ read_counts read }
+{
+    match read {
+        Ok(found) => {
+            *counts = [found.vertices, found.faces];
+            0
+        }
+        Err(refusal) => {
+            *counts = [0, 0];
+            refusal.number()
+        }
+    }
+}
+
 // How long the file of so many vertices and faces is; 0 where one of them is over 999,999,999 and there is no such file.
 pub fn spoonthicket_ply_length(vertices: usize, faces: usize) -> usize
     ensures { result ≡ file_length vertices faces }
@@ -157,8 +191,7 @@ pub fn spoonthicket_ply_write(
     ensures { PlyWritten words.now triangles.now out.old out.new result written.new }
 {
     let wrote = ply_write::write(words, triangles, out);
-    *written = [wrote.length];
-    wrote.status
+    tell_written(wrote, written)
 }
 
 // The same for a mesh whose coordinates are floats, as the build leaves them: their bits are written.
@@ -170,9 +203,8 @@ pub fn spoonthicket_ply_mesh(
 ) -> usize
     ensures { PlyWritten (bits_of vertices.now) triangles.now out.old out.new result written.new }
 {
-    let drawn = ply_write::write_mesh(vertices, triangles, out);
-    *written = [drawn.length];
-    drawn.status
+    let wrote = ply_write::write_mesh(vertices, triangles, out);
+    tell_written(wrote, written)
 }
 
 // The numbers of vertices and faces of a file, zeros on a refusal, 9 or 10. Nothing else is stored.
@@ -180,8 +212,7 @@ pub fn spoonthicket_ply_sizes(file: &[u8], counts: &mut [usize; 2]) -> usize
     ensures { PlySized file.now result counts.new }
 {
     let sized = ply::sizes(file);
-    *counts = [sized.vertices, sized.faces];
-    sized.status
+    tell_counts(sized, counts)
 }
 
 // The words and the indices of a file, put at the fronts of the two lists. A refusal, 9, 10 or 11, leaves them as they were, and gives zeros.
@@ -194,8 +225,7 @@ pub fn spoonthicket_ply_read(
     ensures { PlyRead file.now words.old triangles.old words.new triangles.new result counts.new }
 {
     let stored = ply::read(file, words, triangles);
-    *counts = [stored.vertices, stored.faces];
-    stored.status
+    tell_counts(stored, counts)
 }
 
 // ---- the volume
@@ -221,7 +251,14 @@ pub fn spoonthicket_volume(
 {
     let at = whole_at(origin);
     let found = volume::volume_of(vertices, triangles, scale, at);
-    let n = found.six;
-    *six = [n];
-    found.status
+    match found {
+        Ok(n) => {
+            *six = [n];
+            0
+        }
+        Err(refusal) => {
+            *six = [0];
+            refusal.number()
+        }
+    }
 }

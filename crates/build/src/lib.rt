@@ -11,6 +11,7 @@ use points::Frame;
 use refusals::Lengths;
 
 // The counts are those of docs/SCOPE.md, S9.4, in the order in which they are printed.
+// Not a Result: docs/SCOPE.md, S9.2 and S9.3, promises a number for each outcome and zero for all counts of a refusal, as `answer_of` says.
 #[derive(Clone, Copy)]
 pub struct Answer {
     pub status: usize,
@@ -126,10 +127,10 @@ pub fn build(
         triangles: tris.len(),
         edges: edges.len(),
     };
-    let reply = refusals::request(n, method, rounds, frame, samples, lent, threshold);
-    if reply.status != 0 {
-        return refused(reply.status);
-    }
+    let crossed = match refusals::request(n, method, rounds, frame, samples, lent, threshold) {
+        Ok(crossed) => crossed,
+        Err(refusal) => return refused(refusal.number()),
+    };
     let cluster = method == 1;
     let job = Job {
         frame,
@@ -139,14 +140,6 @@ pub fn build(
         threshold,
     };
     grant(
-        job,
-        reply.crossed,
-        samples,
-        masks,
-        table,
-        positions,
-        book,
-        tris,
-        edges,
+        job, crossed, samples, masks, table, positions, book, tris, edges,
     )
 }

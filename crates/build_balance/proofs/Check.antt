@@ -9,8 +9,7 @@ use lib.Ieee.{Float, binary64, of_bits}
 use Rattle.samples.specs.Sides.{base}
 use Rattle.stages.proofs.Examples.{stages_key, words, frame}
 use Rattle.build.specs.Answer.{Order, order, order_box, order_vertices, order_positions, order_triangles}
-use Rattle.volume.specs.declared.Volume.{Volume}
-use Rattle.volume.specs.Volume.{volume_of}
+use Rattle.volume.specs.Volume.{Volume, volume_of}
 use Rattle.volume.proofs.Examples.{volume_key}
 
 -- 1.0 and 4.0

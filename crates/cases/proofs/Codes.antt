@@ -1,4 +1,5 @@
 -- Laws of the numbers of corners and of the cases that they give. Assumes nothing.
+use Rattle.std.specs.Prelude.{Option}
 use mathlib.Core.Path.{◌≡◌, refl, ap}
 use mathlib.Core.Bool.{Bool, true, false, ◌&&◌, cond}
 use mathlib.Core.Logic.{⊎_elim}
@@ -15,7 +16,6 @@ use Rattle.laws.proofs.Bools.{bit_le}
 use Rattle.laws.proofs.Ranges.{lt-or, all_at2, each-one-at, each-one-length}
 use Rattle.tables.specs.Edges.{corner_of}
 use Rattle.tables.specs.Tets.{tet_label, tet_corner}
-use Rattle.samples.specs.declared.Sample.{Sample}
 use Rattle.lattice.specs.declared.Sides.{Sides}
 use Rattle.cases.specs.Cases.{is_there, is_below, case_from, corner_value, tetrahedron_case}
 use Rattle.cases.specs.Inner.Codes.{code, code_of, codes_of, case_by, case_on, code_sum, Coded}
@@ -45,7 +45,7 @@ unfolding code
 code-low true side h = bit_le side
 code-low false side h = absurd (omega arith)
 
-pub code_of-le : (x : Sample) (h : Float) → code_of x h ≤ 16
+pub code_of-le : (x : Option Float) (h : Float) → code_of x h ≤ 16
 unfolding code_of
 code_of-le x h = code-le (is_there x) (is_below x h)
 
@@ -60,7 +60,7 @@ case_codes true true false d p q r s = ap (λ (t : Bool). cond t (bit p + 2 * bi
 case_codes true false c d p q r s = ap (λ (t : Bool). cond t (bit p + 2 * 16 + 4 * code c r + 8 * code d s) 0) (le-ltb (bit p + 2 * 16 + 4 * code c r + 8 * code d s) 16 (omega arith))
 case_codes false b c d p q r s = ap (λ (t : Bool). cond t (16 + 2 * code b q + 4 * code c r + 8 * code d s) 0) (le-ltb (16 + 2 * code b q + 4 * code c r + 8 * code d s) 16 (omega arith))
 
-pub case_samples : (a b c d : Sample) (h : Float) → case_by (code_of a h) (code_of b h) (code_of c h) (code_of d h) ≡ case_from a b c d h
+pub case_samples : (a b c d : Option Float) (h : Float) → case_by (code_of a h) (code_of b h) (code_of c h) (code_of d h) ≡ case_from a b c d h
 unfolding code_of case_from
 case_samples a b c d h = case_codes (is_there a) (is_there b) (is_there c) (is_there d) (is_below a h) (is_below b h) (is_below c h) (is_below d h)
 
@@ -103,7 +103,7 @@ module _ (n : Sides) (s : List Float) (h : Float) (u v : ℕ) where
 
 -- ---- all eight together: where the sum is 0, and where it is 8
 
-pub code_of-low : (x : Sample) (h : Float) → code_of x h ≤ 8 → code_of x h ≤ 1
+pub code_of-low : (x : Option Float) (h : Float) → code_of x h ≤ 8 → code_of x h ≤ 1
 unfolding code_of
 code_of-low x h l = code-low (is_there x) (is_below x h) l
 

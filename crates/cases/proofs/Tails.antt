@@ -1,4 +1,5 @@
 -- The cases of a site from the samples from its layer's first site on: where the layer starts, and that they are the same. Assumes nothing.
+use Rattle.std.specs.Prelude.{None, Some}
 use mathlib.Core.Path.{◌≡◌, sym, ap, ◌∙◌}
 use mathlib.Core.Bool.{Bool, ◌&&◌, cond}
 use mathlib.Core.Logic.{⊎_elim}
@@ -14,7 +15,6 @@ use lib.Ieee.{Float, nan}
 use Rattle.laws.proofs.Ranges.{lt-or, each_same}
 use Rattle.tables.specs.Edges.{du, dv, dw}
 use Rattle.tables.specs.Tets.{tet_corner}
-use Rattle.samples.specs.declared.Sample.TheVariants.{Missing, Value}
 use Rattle.lattice.specs.declared.Sides.{Sides}
 use Rattle.lattice.specs.declared.Uvw.{Uvw}
 use Rattle.lattice.specs.Sites.{SidesFit, InBox, sites, in_box, site_of, step}
@@ -73,7 +73,7 @@ module _ (n : Sides) (s : List Float) (w : ℕ) (f : SidesFit n) (l : sites n �
   from-value : (u v d : ℕ) → value_uvw (from n w) (drop (start n w) s) u v d ≡ value_uvw n s u v (w + d)
   from-value u v d =
       value-box (from n w) (drop (start n w) s) from-fit from-reach u v d
-      ∙ (λ i. cond (from_in u v d i) (Value ((get_or-drop (start n w) s (site_of (from n w) u v d) nan ∙ ap (λ (j : ℕ). get_or s j nan) (from-site u v d)) i)) Missing)
+      ∙ (λ i. cond (from_in u v d i) (Some ((get_or-drop (start n w) s (site_of (from n w) u v d) nan ∙ ap (λ (j : ℕ). get_or s j nan) (from-site u v d)) i)) None)
       ∙ sym (value-box n s f l u v (w + d))
 
   from-corner : (u v c : ℕ) → corner_value (from n w) (drop (start n w) s) u v 0 c ≡ corner_value n s u v w c

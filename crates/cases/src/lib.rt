@@ -8,7 +8,6 @@ ghost use Rattle.cases.specs.Cases.{case_from, corner_value, cases_at};
 ghost use Rattle.cases.specs.Inner.Codes.{value_code, code_of, codes_of, column_at, joined, case_by, case_on, code_sum, Coded, Placed};
 
 use lattice::{Sides, Uvw};
-use samples::Sample;
 
 // The number of a corner that is missing or not finite: with one of them no sum of four is a case.
 const ABSENT: usize = 16;
@@ -24,12 +23,12 @@ fn value_code(v: f64, h: f64) -> usize
     }
 }
 
-fn sample_code(x: Sample, h: f64) -> usize
+fn sample_code(x: Option<f64>, h: f64) -> usize
     ensures { result ≡ code_of x h }
 {
     match x {
-        Sample::Missing => ABSENT,
-        Sample::Value(v) => value_code(v, h),
+        None => ABSENT,
+        Some(v) => value_code(v, h),
     }
 }
 
@@ -43,7 +42,7 @@ fn case_by(a: usize, b: usize, c: usize, d: usize) -> usize
 }
 
 // The case of a tetrahedron: bit i is set where corner i is inside, 0 where one is missing or not finite.
-pub fn tet_case(a: Sample, b: Sample, c: Sample, d: Sample, h: f64) -> usize
+pub fn tet_case(a: Option<f64>, b: Option<f64>, c: Option<f64>, d: Option<f64>, h: f64) -> usize
     ensures { result ≡ case_from a b c d h }
 {
     let w = sample_code(a, h);
@@ -54,7 +53,7 @@ pub fn tet_case(a: Sample, b: Sample, c: Sample, d: Sample, h: f64) -> usize
 }
 
 // The sample of corner c of the cell at (u, v) of the first layer of s: missing outside the box.
-pub fn corner_sample(s: &[f64], n: Sides, u: usize, v: usize, c: usize) -> Sample
+pub fn corner_sample(s: &[f64], n: Sides, u: usize, v: usize, c: usize) -> Option<f64>
     requires { Placed n u v × (c < 8) }
     ensures { result ≡ corner_value n s.now u v 0 c }
 {
@@ -121,8 +120,8 @@ pub fn code_sum(codes: &[usize; 8]) -> usize
     ensures { result ≡ code_sum codes.now }
 {
     let mut sum = 0;
-    for c in 0..8 {
-        sum += codes[c];
+    for code in codes {
+        sum += *code;
     }
     sum
 }

@@ -11,8 +11,10 @@ use Rattle.lattice.specs.Sites as box
 use Rattle.points.specs.Limits.{frame_ok}
 use Rattle.refusals.specs.Refusals.{settings_ok, inside_ok}
 use Rattle.build.specs.declared.Answer.{Answer}
-use Rattle.build.specs.Answer.{status, refused_answer, answer_of, counts_of, Lists, lengths_of}
+use Rattle.build.specs.Answer.{refused_answer, answer_of, counts_of, Lists, lengths_of}
 use Rattle.build.proofs.Fronts.{answer-status}
+use Rattle.std.specs.Prelude.{Option}
+use Rattle.std.specs.Option.{option_map_or}
 use Rattle.count_file.specs.declared.Parsed.{Parsed}
 use Rattle.lines.specs.Status.{refusal_text}
 use Rattle.count_file.specs.Answer.{answer_text}
@@ -25,13 +27,13 @@ use Rattle.count.specs.Count.{printed, file_answer, Counted, file, none, Answere
 
 -- ---- what is printed of what was built
 
-pub built-counted : {s : List ℕ} {l l' : Lists} {r : Built} → lengths_of l ≡ work_space → BuiltOf s l l' r → Counted s (printed r.file.sites r.answer)
+pub built-counted : {s : List ℕ} {l l' : Lists} {r : Built} → lengths_of l ≡ work_space → BuiltOf s l l' r → Counted s (printed (option_map_or (λ p. p.sites) r.file 0) r.answer)
 unfolding file_answer printed refused_answer
 built-counted {s} {l} {r = r} w (built hd ss f e b) =
-    let n : r.file.sites ≡ length ss = ap (λ (p : Parsed). p.sites) e in
+    let n : option_map_or (λ p. p.sites) r.file 0 ≡ length ss = ap (λ (o : Option Parsed). option_map_or (λ p. p.sites) o 0) e in
     let a : r.answer ≡ answer_of (file_order hd (floats_of ss) work_space) = b.answer ∙ ap (λ (L : _). answer_of (file_order hd (floats_of ss) L)) w in
     subst (λ (t : List ℕ). Counted s t) (sym (ap₂ printed n a)) (file f)
-built-counted {s} {r = r} w (unbuilt z d a k) = subst (λ (t : List ℕ). Counted s t) (sym (ap (printed r.file.sites) a)) (none z)
+built-counted {s} {r = r} w (unbuilt z d a k) = subst (λ (t : List ℕ). Counted s t) (sym (ap (printed (option_map_or (λ p. p.sites) r.file 0)) a)) (none z)
 
 -- ---- its length
 

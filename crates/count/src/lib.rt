@@ -62,7 +62,6 @@ pub fn count_text(input: &[u8], out: &mut [u8; ROOM]) -> usize
         &mut triangles,
         &mut edges,
     );
-    let file = built.file;
-    let answer = built.answer;
-    print(out, file.sites, answer)
+    let sites = built.file.map_or(0, |file| file.sites);
+    print(out, sites, built.answer)
 }

@@ -5,6 +5,7 @@ use Prim.Native.Nat.{ℕ}
 use native.Mathlib.Omega.{arith}
 use Rattle.lines.specs.Parts.{Left, done, must, left}
 use Rattle.count_file.specs.declared.Parsed.{Parsed}
+use Rattle.std.specs.Prelude.{Option, Some}
 use Rattle.count_file.specs.CountFile.{sizes_form, origin_form, steps_form, unsaid, body_form, CountFile}
 use Rattle.count_file.specs.Parsed.{accepted, ParsedOf}
 use Rattle.count_file.specs.Example.{example_head, example_samples, example_file, example_said, file-is, said-is}
@@ -22,12 +23,12 @@ example_file_lem = record {
   is = sym file-is;
 }
 
-pub example_read : (r : Parsed) → ParsedOf example_file r → r ≡ accepted example_head example_samples
+pub example_read : (r : Option Parsed) → ParsedOf example_file r → r ≡ Some (accepted example_head example_samples)
 example_read r p = file_parsed example_file example_head example_samples r example_file_lem p
 
 pub example_said_lem : CountFile example_said example_head example_samples
 unfolding example_file_lem
 example_said_lem = subst (λ (s : List ℕ). CountFile s example_head example_samples) said-is (old_said example_file example_head example_samples example_file_lem refl)
 
-pub said_read : (r : Parsed) → ParsedOf example_said r → r ≡ accepted example_head example_samples
+pub said_read : (r : Option Parsed) → ParsedOf example_said r → r ≡ Some (accepted example_head example_samples)
 said_read r p = file_parsed example_said example_head example_samples r example_said_lem p

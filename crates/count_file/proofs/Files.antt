@@ -1,15 +1,13 @@
 -- Laws of the whole count file: it is one exactly if its header, its samples and nothing else are read; the bytes say the values; any two answers are equal.
 -- Assumes nothing.
 use mathlib.Core.Path.{◌≡◌, refl, sym, ap, ap₂, ◌∙◌}
-use mathlib.Core.Bool.{Bool, true, false, cond, false≢true}
 use mathlib.Core.List.{List, [], ◌∷◌, ◌++◌, append-nil}
 use Prim.Native.Nat.{ℕ, zero, suc, ◌+◌, ◌-◌, ◌*◌, ◌≤◌, ◌<◌}
-use native.Mathlib.Nat.{suc-mul, mul_comm, mul-one, zero-mul, mul-zero, le_trans, le_of_eq, mul-le-mul_left, lt_of_lt_of_le}
+use native.Mathlib.Nat.{suc-mul, mul_comm, mul-one, zero-mul, mul-zero, le_trans, le_of_eq, mul-le-mul_left}
 use native.Mathlib.Omega.{arith}
-use lib.Dec.{leb, lit<}
+use lib.Dec.{lit<}
 use lib.ListN.{length, drop, take, get_or, replicate, length-drop, length-append, length-replicate, take-append-drop}
 use lib.Seq.{drop-length, length-take-le, take_at}
-use borrow.Author.Tests.{le-leb, lt-leb, leb-true}
 use Rattle.laws.specs.Filling.{padded}
 use Rattle.laws.specs.Lists.{total}
 use Rattle.laws.proofs.Lists.{drop-replicate}
@@ -17,78 +15,37 @@ use Rattle.count_file.specs.declared.Head.{Head}
 use Rattle.count_file.specs.declared.Parsed.{Parsed}
 use Rattle.lines.specs.Lines.{Field, Dec, line_of, ok_of, lines, Fine, none, line}
 use Rattle.lines.specs.Parts.{Run, Left, This, part_text, parts_text, PartsFine, done, must, given, left}
-use Rattle.lines.specs.Inner.Readers.{Reads, Absent, Miss}
+use Rattle.lines.specs.Inner.Readers.{Absent, Miss}
 use Rattle.count_file.specs.CountFile.{sizes_form, inside_form, head_parts, inside_base, Says, said, head_runs, head_text, sample, body_form, sites, InSize, file_text, CountFile}
-use Rattle.count_file.specs.Parsed.{accepted, refusal, Accepted, parsed_as, ParsedOf}
+use Rattle.std.specs.Prelude.{Option, Some, None}
+use Rattle.count_file.specs.Parsed.{accepted, Accepted, ParsedOf}
 use Rattle.lines.specs.Inner.Stored.{Stored}
-use Rattle.count_file.specs.Inner.Heads.{FoundHead, site_count, count_of}
+use Rattle.count_file.specs.Inner.Heads.{FoundHead}
 use Rattle.lines.proofs.Lines.{lines_same, fine-length, line_most, lines-most}
 use Rattle.lines.proofs.Parts.{first_fine}
 use Rattle.count_file.proofs.Heads.{says-left, head_same, line_same}
 
--- ---- the number of sites
-
-pub count_small : (a b c : ℕ) → a * b * c ≤ 216 → site_count a b c ≡ a * b * c
-unfolding site_count
-count_small a b c h = rw (le-leb (a * b * c) 216 h)
-
-pub count_large : (a b c : ℕ) → 216 < a * b * c → site_count a b c ≡ 0
-unfolding site_count
-count_large a b c h = rw (lt-leb (a * b * c) 216 h)
-
-pub count-zero : (a b c : ℕ) → a * b * c ≡ 0 → site_count a b c ≡ 0
-count-zero a b c h = count_small a b c (omega arith) ∙ h
+-- ---- the number of sites: from 1 to 216 exactly if the sides are at least 1 and the product at most 216
 
 times-some : (a c : ℕ) → 1 ≤ c → a ≤ a * c
 times-some a c g = le_trans (le_of_eq (sym (mul-one a))) (mul-le-mul_left a g)
 
-pub over_left : (a c : ℕ) → 216 < a → (c ≡ 0 → ⊥) → 216 < a * c
-over_left a c h z = lt_of_lt_of_le h (times-some a c (pos c z))
-  where
-    pos : (c : ℕ) → (c ≡ 0 → ⊥) → 1 ≤ c
-    pos c z = omega arith
-
-pub count-le : (a b c : ℕ) → site_count a b c ≤ 216
-unfolding site_count
-count-le a b c = go (leb (a * b * c) 216) refl
-  where
-    go : (t : Bool) → leb (a * b * c) 216 ≡ t → cond t (a * b * c) 0 ≤ 216
-    go true e = leb-true (a * b * c) 216 e
-    go false e = omega arith
-
--- a count that is not 0 is the product
-pub count-sites : (h : Head) → (count_of h ≡ 0 → ⊥) → count_of h ≡ sites h
-unfolding site_count
-count-sites h z = go (leb (sites h) 216) z
-  where
-    go : (b : Bool) → (cond b (sites h) 0 ≡ 0 → ⊥) → cond b (sites h) 0 ≡ sites h
-    go true z = refl
-    go false z = absurd (z refl)
-
--- it is not 0 exactly if the sides are at least 1 and the product at most 216
-factor_some : (a c : ℕ) → (a * c ≡ 0 → ⊥) → (1 ≤ a) × (1 ≤ c)
-factor_some zero c z = absurd (z (zero-mul c))
-factor_some (suc a) zero z = absurd (z (mul-zero (suc a)))
+factor_some : (a c : ℕ) → 1 ≤ a * c → (1 ≤ a) × (1 ≤ c)
+factor_some zero c z = absurd (omega (arith, z, zero-mul c))
+factor_some (suc a) zero z = absurd (omega (arith, z, mul-zero (suc a)))
 factor_some (suc a) (suc c) z = (omega arith, omega arith)
 
 some-some : (a c : ℕ) → 1 ≤ a → 1 ≤ c → 1 ≤ a * c
 some-some a c h g = le_trans h (times-some a c g)
 
-pub count-size : (h : Head) → (count_of h ≡ 0 → ⊥) → InSize h
-count-size h z =
-    let e : count_of h ≡ sites h = count-sites h z in
-    let p = factor_some (get_or h.sizes 0 0 * get_or h.sizes 1 0) (get_or h.sizes 2 0) (λ q. z (e ∙ q)) in
-    let q = factor_some (get_or h.sizes 0 0) (get_or h.sizes 1 0) (λ r. not-zero (get_or h.sizes 0 0 * get_or h.sizes 1 0) p.0 r) in
-    record { some_u = q.0; some_v = q.1; some_w = p.1; most = rw (← e) (count-le (get_or h.sizes 0 0) (get_or h.sizes 1 0) (get_or h.sizes 2 0)) }
-  where
-    not-zero : (n : ℕ) → 1 ≤ n → n ≡ 0 → ⊥
-    not-zero n h e = omega arith
+pub count-size : (h : Head) → 1 ≤ sites h → sites h ≤ 216 → InSize h
+count-size h z m =
+    let p = factor_some (get_or h.sizes 0 0 * get_or h.sizes 1 0) (get_or h.sizes 2 0) z in
+    let q = factor_some (get_or h.sizes 0 0) (get_or h.sizes 1 0) p.0 in
+    record { some_u = q.0; some_v = q.1; some_w = p.1; most = m }
 
-pub size-count : (h : Head) → InSize h → count_of h ≡ 0 → ⊥
-size-count h i z =
-    let e : count_of h ≡ sites h = count_small (get_or h.sizes 0 0) (get_or h.sizes 1 0) (get_or h.sizes 2 0) i.most in
-    let p = some-some (get_or h.sizes 0 0 * get_or h.sizes 1 0) (get_or h.sizes 2 0) (some-some (get_or h.sizes 0 0) (get_or h.sizes 1 0) i.some_u i.some_v) i.some_w in
-    omega (arith, sym e ∙ z)
+pub size-count : (h : Head) → InSize h → 1 ≤ sites h
+size-count h i = some-some (get_or h.sizes 0 0 * get_or h.sizes 1 0) (get_or h.sizes 2 0) (some-some (get_or h.sizes 0 0) (get_or h.sizes 1 0) i.some_u i.some_v) i.some_w
 
 -- then no side is over 216
 pub side-most : (h : Head) → InSize h → (get_or h.sizes 0 0 ≤ 216) × (get_or h.sizes 1 0 ≤ 216) × (get_or h.sizes 2 0 ≤ 216)
@@ -145,98 +102,81 @@ module _ (s : List ℕ) where
         let t = head_same p.run f.run h k (drop mid s) (lines (body_form (sites k)) ss) p.have.fine f.head (sym p.have.here ∙ f.is) p.says f.says in
         record { values = t.first; rest = rw t.first t.rest; fine = rw t.first f.body }
 
-    pub bad-size : count_of h ≡ 0 → (k : Head) (ss : List ℕ) → CountFile s k ss → ⊥
-    bad-size z k ss f = size-count k f.size (rw (← (same k ss f).values) z)
+    pub bad-size : ((1 ≤ sites h) × (sites h ≤ 216) → ⊥) → (k : Head) (ss : List ℕ) → CountFile s k ss → ⊥
+    bad-size z k ss f =
+        let i : InSize h = rw (same k ss f).values f.size in
+        z (size-count h i, i.most)
 
     -- of a size that is accepted
-    module _ (some : count_of h ≡ 0 → ⊥) where
-      pub no_samples : Absent (lines (body_form (count_of h))) (Fine (body_form (count_of h))) s mid → (k : Head) (ss : List ℕ) → CountFile s k ss → ⊥
+    module _ (size : InSize h) where
+      pub no_samples : Absent (lines (body_form (sites h))) (Fine (body_form (sites h))) s mid → (k : Head) (ss : List ℕ) → CountFile s k ss → ⊥
       no_samples q k ss f =
           let t = same k ss f in
-          let q' : Absent (lines (body_form (sites h))) (Fine (body_form (sites h))) s mid = rw (count-sites h some) at q in
-          q'.none ss [] t.fine (rw append-nil t.rest)
+          q.none ss [] t.fine (rw append-nil t.rest)
 
       -- and samples were read
-      module _ (l l' : List ℕ) (next : ℕ) (q : Stored (body_form (count_of h)) s mid (count_of h) l l' next) where
-        body : Reads (lines (body_form (sites h))) (Fine (body_form (sites h))) s mid (take (sites h) l') next
-        body = rw (count-sites h some) at q.reads
-
+      module _ (l l' : List ℕ) (next : ℕ) (q : Stored (body_form (sites h)) s mid (sites h) l l' next) where
         pub more_follows : (next ≡ length s → ⊥) → (k : Head) (rs : List ℕ) → CountFile s k rs → ⊥
         more_follows z k rs f =
             let t = same k rs f in
-            let e : lines (body_form (sites h)) (take (sites h) l') ++ drop next s ≡ lines (body_form (sites h)) rs ++ [] = sym body.here ∙ rw append-nil t.rest in
-            let u = lines_same (drop next s) [] body.fine t.fine e in
+            let e : lines (body_form (sites h)) (take (sites h) l') ++ drop next s ≡ lines (body_form (sites h)) rs ++ [] = sym q.reads.here ∙ rw append-nil t.rest in
+            let u = lines_same (drop next s) [] q.reads.fine t.fine e in
             let m = ap length u.rest in
-            z (omega (arith, body.within, rw length-drop at m))
+            z (omega (arith, q.reads.within, rw length-drop at m))
 
-        pub file-read : next ≡ length s → CountFile s h (take (count_of h) l')
+        pub file-read : next ≡ length s → CountFile s h (take (sites h) l')
         file-read e =
             let z : drop next s ≡ [] = rw e (drop-length s) in
-            rw (count-sites h some) (record {
+            record {
               run = p.run;
               says = p.says;
               head = p.have.fine;
-              size = count-size h some;
-              body = body.fine;
-              is = p.have.here ∙ rw (body.here, z, append-nil);
-            })
+              size = size;
+              body = q.reads.fine;
+              is = p.have.here ∙ rw (q.reads.here, z, append-nil);
+            }
 
         -- the list that was filled, where it was n zeros
-        pub filled : (n : ℕ) → l ≡ replicate n 0 → count_of h ≤ n → l' ≡ padded n 0 (take (count_of h) l')
+        pub filled : (n : ℕ) → l ≡ replicate n 0 → sites h ≤ n → l' ≡ padded n 0 (take (sites h) l')
         filled n e g =
             let m : length l' ≡ n = q.full ∙ rw (e, length-replicate) in
-            sym (take-append-drop (count_of h) l')
-            ∙ rw (q.past, e, drop-replicate, length-take-le (count_of h) l' (rw m g))
+            sym (take-append-drop (sites h) l')
+            ∙ rw (q.past, e, drop-replicate, length-take-le (sites h) l' (rw m g))
 
 -- ---- what is read from a count file
 
 -- the answer where all was read
-pub accept : (s : List ℕ) (h : Head) (mid : ℕ) → FoundHead s h mid → (count_of h ≡ 0 → ⊥) → {l' : List ℕ} (next : ℕ)
-    → Stored (body_form (count_of h)) s mid (count_of h) (replicate 216 0) l' next → next ≡ length s → (n : ℕ) → n ≡ count_of h
-    → Accepted s (record { good = true; head = h; sites = n; samples = l' })
-accept s h mid p some {l'} next q e n m =
-    let g : count_of h ≤ 216 = count-le (get_or h.sizes 0 0) (get_or h.sizes 1 0) (get_or h.sizes 2 0) in
+pub accept : (s : List ℕ) (h : Head) (mid : ℕ) → FoundHead s h mid → InSize h → {l' : List ℕ} (next : ℕ)
+    → Stored (body_form (sites h)) s mid (sites h) (replicate 216 0) l' next → next ≡ length s → (n : ℕ) → n ≡ sites h
+    → Accepted s (record { head = h; sites = n; samples = l' })
+accept s h mid p size {l'} next q e n m =
     let f : length l' ≡ 216 = q.full ∙ length-replicate {A = ℕ} 216 0 in
-    let k : n ≡ length (take (count_of h) l') = m ∙ sym (length-take-le (count_of h) l' (rw f g)) in
-    let w : l' ≡ padded 216 0 (take (count_of h) l') = filled s h mid p some (replicate 216 0) l' next q 216 refl g in
+    let k : n ≡ length (take (sites h) l') = m ∙ sym (length-take-le (sites h) l' (rw f size.most)) in
+    let w : l' ≡ padded 216 0 (take (sites h) l') = filled s h mid p size (replicate 216 0) l' next q 216 refl size.most in
     record {
-      samples = take (count_of h) l';
-      file = file-read s h mid p some (replicate 216 0) l' next q e;
+      samples = take (sites h) l';
+      file = file-read s h mid p size (replicate 216 0) l' next q e;
       is = ap₂ (λ (i : ℕ) (x : List ℕ). the_answer h i x) k w;
     }
   where
     the_answer : Head → ℕ → List ℕ → Parsed
-    the_answer h i x = record { good = true; head = h; sites = i; samples = x }
+    the_answer h i x = record { head = h; sites = i; samples = x }
 
 -- it is determined
-pub file_parsed : (s : List ℕ) (h : Head) (ss : List ℕ) (r : Parsed) → CountFile s h ss → ParsedOf s r → r ≡ accepted h ss
-file_parsed s h ss r f p = go r.good refl p
-  where
-    go : (b : Bool) → r.good ≡ b → parsed_as b s r → r ≡ accepted h ss
-    go true e a =
-        let u = file_unique s r.head a.samples h ss a.file f in
-        a.is ∙ rw (u.0, u.1)
-    go false e a = absurd (a.none h ss f)
+pub file_parsed : (s : List ℕ) (h : Head) (ss : List ℕ) (r : Option Parsed) → CountFile s h ss → ParsedOf s r → r ≡ Some (accepted h ss)
+file_parsed s h ss None f p = absurd (p.none h ss f)
+file_parsed s h ss (Some r) f p =
+    let u = file_unique s r.head p.samples h ss p.file f in
+    ap Some (p.is ∙ rw (u.0, u.1))
 
-pub parsed_unique : (s : List ℕ) (r q : Parsed) → ParsedOf s r → ParsedOf s q → r ≡ q
-parsed_unique s r q a b = go r.good q.good a b
-  where
-    go : (x y : Bool) → parsed_as x s r → parsed_as y s q → r ≡ q
-    go true true a b =
-        let u = file_unique s r.head a.samples q.head b.samples a.file b.file in
-        let m : accepted r.head a.samples ≡ accepted q.head b.samples = rw (u.0, u.1) in
-        a.is ∙ m ∙ sym b.is
-    go true false a b = absurd (b.none r.head a.samples a.file)
-    go false true a b = absurd (a.none q.head b.samples b.file)
-    go false false a b = a.is ∙ sym b.is
+pub parsed_unique : (s : List ℕ) (r q : Option Parsed) → ParsedOf s r → ParsedOf s q → r ≡ q
+parsed_unique s None None a b = refl
+parsed_unique s None (Some q) a b = absurd (a.none q.head b.samples b.file)
+parsed_unique s (Some r) q a b = sym (file_parsed s r.head a.samples q a.file b ∙ ap Some (sym a.is))
 
 -- it is accepted exactly if it is a count file
-pub good_exactly : (s : List ℕ) (r : Parsed) → ParsedOf s r → (r.good ≡ true → Accepted s r) × ((h : Head) (ss : List ℕ) → CountFile s h ss → r.good ≡ true)
-good_exactly s r p = (λ e. go r.good e p, λ h ss f. ap (λ (q : Parsed). q.good) (file_parsed s h ss r f p))
-  where
-    go : (b : Bool) → b ≡ true → parsed_as b s r → Accepted s r
-    go true e a = a
-    go false e a = absurd (false≢true e)
+pub good_exactly : (s : List ℕ) (r : Option Parsed) → ParsedOf s r → ((q : Parsed) → r ≡ Some q → Accepted s q) × ((h : Head) (ss : List ℕ) → CountFile s h ss → r ≡ Some (accepted h ss))
+good_exactly s r p = (λ q e. rw e at p, λ h ss f. file_parsed s h ss r f p)
 
 -- what an accepted answer holds
 pub accepted-sites : (s : List ℕ) (r : Parsed) → Accepted s r → r.sites ≡ sites r.head
@@ -249,8 +189,8 @@ accepted-samples s r a =
     ap₂ (λ (k : ℕ) (x : List ℕ). take k x) n l ∙ take_at a.samples (replicate (216 - length a.samples) 0) (length a.samples) refl
 
 -- a file that is printed, with the line inside= or without, is read back: the same header, the same samples
-pub file_back : (l : Run) (h : Head) (ss : List ℕ) (r : Parsed) → Says l h.inside → PartsFine head_parts (head_runs l h) → InSize h → Fine (body_form (sites h)) ss
-    → ParsedOf (file_text l h ss) r → r ≡ accepted h ss
+pub file_back : (l : Run) (h : Head) (ss : List ℕ) (r : Option Parsed) → Says l h.inside → PartsFine head_parts (head_runs l h) → InSize h → Fine (body_form (sites h)) ss
+    → ParsedOf (file_text l h ss) r → r ≡ Some (accepted h ss)
 file_back l h ss r y p i b q = file_parsed (file_text l h ss) h ss r (record { run = l; says = y; head = p; size = i; body = b; is = refl }) q
 
 -- ---- a file without the line inside= says what the same file says with inside=3e112e0be826d695 after rounds=
@@ -266,7 +206,7 @@ old_said s h ss f e =
     with_line : PartsFine head_parts (head_runs Left h) → PartsFine head_parts (head_runs (This (inside_base ∷ [])) h)
     with_line (must a (left p)) = must a (given base-fine p)
 
-pub old_same : (s : List ℕ) (h : Head) (ss : List ℕ) (f : CountFile s h ss) (r q : Parsed) → f.run ≡ Left → ParsedOf s r → ParsedOf (file_text (This (inside_base ∷ [])) h ss) q → r ≡ q
+pub old_same : (s : List ℕ) (h : Head) (ss : List ℕ) (f : CountFile s h ss) (r q : Option Parsed) → f.run ≡ Left → ParsedOf s r → ParsedOf (file_text (This (inside_base ∷ [])) h ss) q → r ≡ q
 old_same s h ss f r q e a b = file_parsed s h ss r f a ∙ sym (file_parsed (file_text (This (inside_base ∷ [])) h ss) h ss q (old_said s h ss f e) b)
 
 -- ---- no count file is longer than 4345 bytes
@@ -295,14 +235,11 @@ file_longest s h ss f =
 
 -- ---- what is no count file is refused: the empty input, and any that is longer
 
-pub none-refused : (s : List ℕ) (r : Parsed) → ((h : Head) (ss : List ℕ) → CountFile s h ss → ⊥) → ParsedOf s r → r ≡ refusal
-none-refused s r z p = go r.good p
-  where
-    go : (b : Bool) → parsed_as b s r → r ≡ refusal
-    go true a = absurd (z r.head a.samples a.file)
-    go false a = a.is
+pub none-refused : (s : List ℕ) (r : Option Parsed) → ((h : Head) (ss : List ℕ) → CountFile s h ss → ⊥) → ParsedOf s r → r ≡ None
+none-refused s None z p = refl
+none-refused s (Some r) z p = absurd (z r.head p.samples p.file)
 
-pub empty-refused : (r : Parsed) → ParsedOf [] r → r ≡ refusal
+pub empty-refused : (r : Option Parsed) → ParsedOf [] r → r ≡ None
 unfolding parts_text part_text lines line_of
 empty-refused r p = none-refused [] r (λ h ss f. go f.run h ss (first_fine f.head) (ap length f.is)) p
   where
@@ -312,5 +249,5 @@ empty-refused r p = none-refused [] r (λ h ss f. go f.run h ss (first_fine f.he
     go : (l : Run) (h : Head) (ss : List ℕ) → Fine sizes_form h.sizes → 0 ≡ length (file_text l h ss) → ⊥
     go l h ss q e = some _ _ q e
 
-pub long_refused : (s : List ℕ) (r : Parsed) → 4345 < length s → ParsedOf s r → r ≡ refusal
+pub long_refused : (s : List ℕ) (r : Option Parsed) → 4345 < length s → ParsedOf s r → r ≡ None
 long_refused s r h p = none-refused s r (λ k ss f. let l = file_longest s k ss f in omega arith) p

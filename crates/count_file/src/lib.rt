@@ -1,23 +1,23 @@
 // The count file: read from bytes; and the count program's answer, printed as bytes.
 #![tactic(auto)]
 
-ghost use Rattle.std.specs.Prelude.{◌≡◌, ◌+◌, ◌≤◌, ◌<◌, length};
+ghost use Rattle.std.specs.Prelude.{◌+◌, ◌*◌, ◌≤◌, ◌<◌, length, SomeIff};
 ghost use Rattle.laws.specs.Written.{Written};
 ghost use Rattle.lines.specs.Lines.{lines};
 ghost use Rattle.lines.specs.Inner.Stored.{RunOf};
 ghost use Rattle.count_file.specs.CountFile.{body_form};
-ghost use Rattle.count_file.specs.Parsed.{zero_head, refusal, ParsedOf};
-ghost use Rattle.count_file.specs.Inner.Heads.{site_count, not_found, ThresholdOf, FoundOf};
+ghost use Rattle.count_file.specs.Parsed.{ParsedOf};
+ghost use Rattle.count_file.specs.Inner.Heads.{ThresholdOf, FoundOf};
 ghost use Rattle.count_file.specs.Answer.{count_form, answer_text};
 
-use lines::{Num, Place};
+use lines::Num;
 
 // ---- the file
 
 // A count file has at most so many sites.
 pub const SITES: usize = 216;
 
-// One byte more than a count file has at most (`file-longest`): a program that reads so many sees that a longer input is none, and need not wait for its end.
+// One byte more than a count file has at most (`file_longest`): a program that reads so many sees that a longer input is none, and need not wait for its end.
 pub const ENOUGH: usize = 4346;
 
 // The bits of 1.0e-9, the threshold of a file without the line `inside=`.
@@ -32,34 +32,11 @@ pub struct Head {
     pub steps: [u64; 3],
 }
 
-fn zero_head() -> Head
-    ensures { result ≡ zero_head }
-{
-    Head {
-        sizes: [0u64; 5],
-        inside: 0,
-        origin: [0u64; 3],
-        steps: [0u64; 3],
-    }
-}
-
 // The header, and where the samples start.
 #[derive(Clone, Copy)]
 struct Found {
-    good: bool,
-    next: usize,
     head: Head,
-}
-
-fn not_found() -> Found
-    ensures { result ≡ not_found }
-{
-    let head = zero_head();
-    Found {
-        good: false,
-        next: 0,
-        head,
-    }
+    next: usize,
 }
 
 // The bits of the threshold, and where the line after them starts.
@@ -74,147 +51,96 @@ fn read_inside(s: &[u8], at: usize) -> Threshold
     requires { at ≤ length s.now }
     ensures { ThresholdOf s.now at result }
 {
-    let Num::Got { value, next } = lines::hex_line(s, at, b"inside=") else {
-        return Threshold {
+    match lines::hex_line(s, at, b"inside=") {
+        Some(Num { value, next }) => Threshold { bits: value, next },
+        None => Threshold {
             bits: INSIDE,
             next: at,
-        };
-    };
-    Threshold { bits: value, next }
+        },
+    }
 }
 
-fn read_head(s: &[u8]) -> Found
+// The header, where one stands at the front.
+fn read_head(s: &[u8]) -> Option<Found>
     ensures { FoundOf s.now result }
 {
     let mut sizes = [0u64; 5];
-    let a = lines::read_run(s, 0, 5, b"nu=nv=nw=method=rounds=", 5, &mut sizes);
-    let Place::At(mid) = a else {
-        return not_found();
-    };
+    let mid = lines::read_run(s, 0, 5, b"nu=nv=nw=method=rounds=", 5, &mut sizes)?;
     let threshold = read_inside(s, mid);
     let mut origin = [0u64; 3];
-    let b = lines::read_run(
+    let end = lines::read_run(
         s,
         threshold.next,
         0,
         b"origin0=origin1=origin2=",
         3,
         &mut origin,
-    );
-    let Place::At(end) = b else {
-        return not_found();
-    };
+    )?;
     let mut steps = [0u64; 3];
-    let d = lines::read_run(s, end, 0, b"step0=step1=step2=", 3, &mut steps);
-    let Place::At(next) = d else {
-        return not_found();
-    };
-    let inside = threshold.bits;
+    let next = lines::read_run(s, end, 0, b"step0=step1=step2=", 3, &mut steps)?;
     let head = Head {
         sizes,
-        inside,
+        inside: threshold.bits,
         origin,
         steps,
     };
-    Found {
-        good: true,
-        next,
-        head,
-    }
+    Some(Found { head, next })
 }
 
 // The lines of n samples, whose bits are stored in the first n places.
-fn read_samples(s: &[u8], from: usize, n: usize, out: &mut [u64]) -> Place
+fn read_samples(s: &[u8], from: usize, n: usize, out: &mut [u64]) -> Option<usize>
     requires { (from ≤ length s.now) × (n ≤ length out.old) }
     ensures { RunOf (body_form n) s.now from n out.old out.new result }
 {
     let mut at = from;
-    let mut k = 0usize;
-    while k < n {
-        let Num::Got { value, next } = lines::hex_line(s, at, b"s=") else {
-            return Place::Bad;
-        };
-        out[k] = value;
+    for place in &mut out[..n] {
+        let Num { value, next } = lines::hex_line(s, at, b"s=")?;
+        *place = value;
         at = next;
-        k += 1;
     }
-    Place::At(at)
+    Some(at)
 }
 
-// The number of sites, 0 where it is over 216.
-fn sites_of(nu: u64, nv: u64, nw: u64) -> usize
+// The number of sites, where it is from 1 to 216.
+fn sites_of(nu: u64, nv: u64, nw: u64) -> Option<usize>
     requires { (nu < 1000000000) × (nv < 1000000000) }
-    ensures { result ≡ site_count nu nv nw }
+    ensures { SomeIff result ((1 ≤ nu * nv * nw) × (nu * nv * nw ≤ 216)) (nu * nv * nw) }
 {
-    let a = nu * nv;
-    if a == 0 {
-        return 0;
+    let n = (nu * nv).checked_mul(nw)?;
+    if n == 0 {
+        return None;
     }
-    if nw == 0 {
-        return 0;
-    }
-    if 216 < a {
-        return 0;
-    }
-    if 216 < nw {
-        return 0;
-    }
-    let n = a * nw;
     if 216 < n {
-        return 0;
+        return None;
     }
-    n as usize
+    Some(n as usize)
 }
 
-// What a count file says: its header, and the bits of each site's sample, zeros past the sites. All is zero where `good` is false: the input is no count file.
+// What a count file says: its header, and the bits of each site's sample, zeros past the sites.
 #[derive(Clone, Copy)]
 pub struct Parsed {
-    pub good: bool,
     pub head: Head,
     pub sites: usize,
     pub samples: [u64; SITES],
 }
 
-fn refused() -> Parsed
-    ensures { result ≡ refusal }
-{
-    let head = zero_head();
-    Parsed {
-        good: false,
-        head,
-        sites: 0,
-        samples: [0u64; SITES],
-    }
-}
-
-// The whole file.
-pub fn read_file(s: &[u8]) -> Parsed
+// The whole file, where the input is a count file.
+pub fn read_file(s: &[u8]) -> Option<Parsed>
     ensures { ParsedOf s.now result }
 {
-    let h = read_head(s);
-    if h.good {
-        let head = h.head;
-        let sizes = head.sizes;
-        let sites = sites_of(sizes[0], sizes[1], sizes[2]);
-        if sites == 0 {
-            return refused();
-        }
-        let mut samples = [0u64; SITES];
-        let r = read_samples(s, h.next, sites, &mut samples);
-        let Place::At(at) = r else {
-            return refused();
-        };
-        if at == s.len() {
-            return Parsed {
-                good: true,
-                head,
-                sites,
-                samples,
-            };
-        }
-        return refused();
+    let Found { head, next } = read_head(s)?;
+    let sizes = head.sizes;
+    let sites = sites_of(sizes[0], sizes[1], sizes[2])?;
+    let mut samples = [0u64; SITES];
+    let end = read_samples(s, next, sites, &mut samples)?;
+    if end == s.len() {
+        return Some(Parsed {
+            head,
+            sites,
+            samples,
+        });
     }
-    refused()
+    None
 }
 
 // ---- the answer

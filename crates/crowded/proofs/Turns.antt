@@ -1,6 +1,6 @@
 -- The turns of the loops: the ways out of one, and what every turn keeps. Assumes nothing.
 use mathlib.Core.Path.{◌≡◌, refl, sym, ap, ◌∙◌}
-use mathlib.Core.Bool.{Bool, true, false, ◌||◌, or-true, or-false}
+use mathlib.Core.Bool.{Bool, true, false, ◌||◌}
 use mathlib.Core.List.{List}
 use Prim.Native.Nat.{ℕ, ◌+◌, ◌*◌, ◌%◌, ◌≤◌, ◌<◌}
 use native.Mathlib.Omega.{arith}
@@ -46,12 +46,6 @@ module _ {s room : List ℕ} {a : ℕ} (r : Ready s room a) (k : ℕ) (h : k < l
 
 -- ---- the ways out of a turn
 
-pub found_yes : (f b : Bool) → b ≡ true → true ≡ f || b
-found_yes f b e = sym (ap (λ (c : Bool). f || c) e ∙ or-true f)
-
-pub found_no : (f b : Bool) → b ≡ false → f ≡ f || b
-found_no f b e = sym (ap (λ (c : Bool). f || c) e ∙ or-false f)
-
 module _ (a : ℕ) (b : Bool) (x : ℕ) (l : List ℕ) where
   pub mark_yes : b ≡ true → set l (a + x) 1 ≡ mark a b x l
   unfolding mark
@@ -92,15 +86,15 @@ flagged-crowded {s} {room} r k h =
     let m : next (next k) < length s = next_low s r.whole (next k) n in
     λ i. flag_is r k h i || flag_is r (next k) n i || flag_is r (next (next k)) m i
 
-module _ (s book : List ℕ) (a k : ℕ) (l : List ℕ) (f : Bool) where
-  pub corner_yes : crowded_at s k ≡ true → {r : Bool} {l' : List ℕ} → r ≡ f || ltb 1 (get_or book (4 * get_or s k 0 + 1) 0)
-      → l' ≡ mark a (ltb 1 (get_or book (4 * get_or s k 0 + 1) 0)) (get_or book (4 * get_or s k 0) 0) l → (r ≡ f || wanted s book k) × (l' ≡ owner_turn s book a k l)
+module _ (s book : List ℕ) (a k : ℕ) (l : List ℕ) where
+  pub corner_yes : crowded_at s k ≡ true → {r : Bool} {l' : List ℕ} → r ≡ ltb 1 (get_or book (4 * get_or s k 0 + 1) 0)
+      → l' ≡ mark a (ltb 1 (get_or book (4 * get_or s k 0 + 1) 0)) (get_or book (4 * get_or s k 0) 0) l → (r ≡ wanted s book k) × (l' ≡ owner_turn s book a k l)
   unfolding wanted owner_turn
   corner_yes e g h = (g ∙ sym (rw e refl), h ∙ sym (rw e refl))
 
-  pub corner_no : crowded_at s k ≡ false → (f ≡ f || wanted s book k) × (l ≡ owner_turn s book a k l)
+  pub corner_no : crowded_at s k ≡ false → (false ≡ wanted s book k) × (l ≡ owner_turn s book a k l)
   unfolding wanted owner_turn mark
-  corner_no e = (sym (rw e (or-false f)), sym (rw e refl))
+  corner_no e = (sym (rw e refl), sym (rw e refl))
 
 -- ---- what every turn keeps: the length, and the words before a
 
@@ -155,10 +149,10 @@ module _ (s : List ℕ) (a : ℕ) (turn : ℕ → List ℕ → List ℕ) (p : �
       flags = λ j h. ap (λ (q : List ℕ). get_or q j 0) d.list ∙ fold_keeps (λ (q : List ℕ). get_or q j 0) turn (t.before j (omega (arith, r.front))) k l₀ ∙ r.flags j h;
     }
 
-    pub looped_turn : k < length s → (l' : List ℕ) (f' : Bool) → l' ≡ turn k l → length l' ≡ length l → f' ≡ f || p k → Looped s a turn p l₀ (k + 1) l' f'
-    looped_turn h l' f' e n g = record {
+    pub looped_turn : k < length s → (l' : List ℕ) (r : Bool) → l' ≡ turn k l → length l' ≡ length l → r ≡ p k → Looped s a turn p l₀ (k + 1) l' (f || r)
+    looped_turn h l' r e n g = record {
       low = omega arith;
       list = fold-turn turn k l₀ l l' d.list e;
       long = n ∙ d.long;
-      found = g ∙ ap (λ (c : Bool). c || p k) d.found ∙ sym (any-more k p);
+      found = ap (λ (c : Bool). f || c) g ∙ ap (λ (c : Bool). c || p k) d.found ∙ sym (any-more k p);
     }

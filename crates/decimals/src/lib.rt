@@ -1,100 +1,50 @@
 // Whole numbers in decimal, read and printed: with a minus where they are below 0, and with digits behind a point.
 #![tactic(auto)]
 
-ghost use Rattle.std.specs.Prelude.{◌≡◌, ◌+◌, ◌≤◌, length};
+ghost use Rattle.std.specs.Prelude.{◌≡◌, ◌+◌, ◌-◌, ◌≤◌, length, SomeIff};
 ghost use Rattle.laws.specs.Written.{Written};
 ghost use Rattle.decimals.specs.Decimals.{sign_of, pointed, decimal};
 ghost use Rattle.decimals.specs.Readers.{NaturalOf, SignedOf};
 
 // ---- reading
 
-// The number that the bytes are, if they are one of this type.
-#[derive(Clone, Copy)]
-pub enum Natural {
-    NoNatural,
-    Is(u64),
-}
-
-#[derive(Clone, Copy)]
-pub enum Signed {
-    NoNumber,
-    Number(i64),
-}
-
-fn wide(b: u8) -> u64
-    ensures { result ≡ b }
+// The number of a digit.
+fn digit(b: u8) -> Option<u64>
+    ensures { SomeIff result ((48 ≤ b) × (b ≤ 57)) (b - 48) }
 {
-    b as u64
+    if b.is_ascii_digit() {
+        return Some(u64::from(b - b'0'));
+    }
+    None
 }
 
-// A decimal of 64 bits with no needless zero, and nothing behind it.
-pub fn read_natural(s: &[u8]) -> Natural
+// The number that the bytes are: a decimal of 64 bits with no needless zero, and nothing behind it.
+pub fn read_natural(s: &[u8]) -> Option<u64>
     ensures { NaturalOf s.now result }
 {
-    if s.len() == 0 {
-        return Natural::NoNatural;
-    }
-    let first = s[0];
-    if first < 48 {
-        return Natural::NoNatural;
-    }
-    if 57 < first {
-        return Natural::NoNatural;
-    }
-    let mut n = wide(first - 48);
-    let mut i = 1usize;
-    while i < s.len() {
-        let b = s[i];
-        if b < 48 {
-            return Natural::NoNatural;
-        }
-        if 57 < b {
-            return Natural::NoNatural;
-        }
+    let (first, rest) = s.split_first()?;
+    let mut n = digit(*first)?;
+    for b in rest {
         if n == 0 {
-            return Natural::NoNatural;
+            return None;
         }
-        let d = wide(b - 48);
-        if 1844674407370955161 < n {
-            return Natural::NoNatural;
-        }
-        let t = n * 10;
-        if 18446744073709551615 - d < t {
-            return Natural::NoNatural;
-        }
-        n = t + d;
-        i += 1;
+        let d = digit(*b)?;
+        n = n.checked_mul(10)?.checked_add(d)?;
     }
-    Natural::Is(n)
+    Some(n)
 }
 
 // The same with a minus in front where the number is below 0, for every i64; there is no plus and no -0.
-pub fn read_signed(s: &[u8]) -> Signed
+pub fn read_signed(s: &[u8]) -> Option<i64>
     ensures { SignedOf s.now result }
 {
-    if s.len() == 0 {
-        return Signed::NoNumber;
+    if let Some(digits) = s.strip_prefix(b"-") {
+        let size = read_natural(digits)?;
+        let m = i64::try_from(size.checked_sub(1)?).ok()?;
+        return Some(-1 - m);
     }
-    if s[0] == 45 {
-        let Natural::Is(size) = read_natural(&s[1..]) else {
-            return Signed::NoNumber;
-        };
-        if size == 0 {
-            return Signed::NoNumber;
-        }
-        if 9223372036854775808 < size {
-            return Signed::NoNumber;
-        }
-        let m = (size - 1) as i64;
-        return Signed::Number(-1 - m);
-    }
-    let Natural::Is(n) = read_natural(s) else {
-        return Signed::NoNumber;
-    };
-    if 9223372036854775807 < n {
-        return Signed::NoNumber;
-    }
-    Signed::Number(n as i64)
+    let n = read_natural(s)?;
+    i64::try_from(n).ok()
 }
 
 // ---- printing
@@ -105,7 +55,7 @@ pub fn put_sign(out: &mut [u8], at: usize, z: i64) -> usize
     ensures { Written out.old at (sign_of z) out.new result }
 {
     if z < 0 {
-        out[at] = 45;
+        out[at] = b'-';
         return at + 1;
     }
     at
@@ -118,11 +68,11 @@ fn put_pointed(out: &mut [u8], at: usize, k: usize, n: u64) -> usize
 {
     if k == 0 {
         let mid = lines::put_dec(out, at, n);
-        out[mid] = 46;
+        out[mid] = b'.';
         return mid + 1;
     }
     let mid = put_pointed(out, at, k - 1, n / 10);
-    out[mid] = 48 + (n % 10) as u8;
+    out[mid] = b'0' + (n % 10) as u8;
     mid + 1
 }
 

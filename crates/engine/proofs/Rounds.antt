@@ -1,6 +1,7 @@
 -- One round: what its flags say of the vertices that stand in the lists, and what it leaves. Assumes nothing.
+use Rattle.std.specs.Prelude.{None, Some}
 use mathlib.Core.Path.{◌≡◌, refl, sym, ap, subst, ◌∙◌}
-use mathlib.Core.Bool.{Bool, true, false, false≢true}
+use mathlib.Core.Bool.{Bool, true, false}
 use mathlib.Core.List.{List, [], ◌∷◌}
 use Prim.Native.Nat.{ℕ, ◌+◌, ◌*◌, ◌-◌, ◌/◌, ◌≤◌, ◌<◌}
 use native.Mathlib.Omega.{arith}
@@ -154,19 +155,14 @@ module _ {j : Job} {S : List Float} {at : Stand} {m : List ℕ} {w : Work} {room
       -- WHAT THE ROUND LEAVES
       pub round_turned : (round v f : ℕ) (w' : Work) → Rolled j.frame j.sides S m w.table w.positions w.book fl at.vertices round v w'.table w'.positions w'.book
           → Written w.triangles 0 (flat (march (lists.field_of j.sides S j.threshold w'.table))) w'.triangles (3 * f)
-          → Turned j S at w x round (record { more = r; stand = record { vertices = v; triangles = f } }) w'
+          → Turned j S at w x round (Some (record { vertices = v; triangles = f })) w'
       round_turned round v f w' o y = record {
-        none = λ z. absurd (false≢true (sym z ∙ some));
-        same = λ z. absurd (false≢true (sym z ∙ some));
-        some = λ z. round_some some;
-        stands = λ z. stands (record { vertices = v; triangles = f }) (o.lists j.threshold j.cluster x.vertices (round_rolling round)) y;
+        none = tt;
+        same = tt;
+        some = round_some some;
+        stands = stands (record { vertices = v; triangles = f }) (o.lists j.threshold j.cluster x.vertices (round_rolling round)) y;
       }
 
     -- WITHOUT AN OWNER NOTHING IS CHANGED
-    pub round_still : r ≡ false → (round : ℕ) (s : Stand) → Turned j S at w x round (record { more = r; stand = s }) w
-    round_still z round s = record {
-      none = λ y. round_quiet z;
-      same = λ y. refl;
-      some = λ y. absurd (false≢true (sym z ∙ y));
-      stands = λ y. absurd (false≢true (sym z ∙ y));
-    }
+    pub round_still : r ≡ false → (round : ℕ) → Turned j S at w x round None w
+    round_still z round = record { none = round_quiet z; same = refl; some = tt; stands = tt }

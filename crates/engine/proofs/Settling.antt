@@ -1,6 +1,6 @@
 -- Round after round: what stands in the lists after some of them, and what is left to do. Assumes nothing.
+use Rattle.std.specs.Prelude.{Option, None, Some}
 use mathlib.Core.Path.{◌≡◌, refl, sym, ap, subst, ◌∙◌}
-use mathlib.Core.Bool.{true, false}
 use mathlib.Core.List.{List}
 use Prim.Native.Nat.{ℕ, suc, ◌+◌, ◌-◌, ◌≤◌, ◌<◌}
 use native.Mathlib.Omega.{arith}
@@ -16,8 +16,7 @@ use Rattle.stages.proofs.Rounds.{done_more, done_none, rounds-more, rounds-none}
 use Rattle.rollback.proofs.Holding.{round_more}
 use Rattle.engine.specs.declared.Job.{Job}
 use Rattle.engine.specs.declared.Stand.{Stand}
-use Rattle.engine.specs.declared.Round.{Round}
-use Rattle.engine.specs.Inner.Standing.{Roomy, SettledAll, Standing, Stood, TurnedAll}
+use Rattle.engine.specs.Inner.Standing.{Roomy, SettledAll, Standing, Stood, Turned, TurnedAll}
 use Rattle.engine.specs.Engine.{Work, job_box}
 use Rattle.engine.proofs.Standing.{mesh_room, roomy_after, stage_space, stands_again, stands_over, stands_same}
 
@@ -73,26 +72,26 @@ module _ {j : Job} {S : List Float} {from : Stand} {m : List ℕ} {l₀ : Work} 
               (mesh_room j S fit r.vertices l₀.triangles (omega (arith, g.first.lists.triangles)));
         }
 
-    module _ {z : Round} {l' : Work} (T : TurnedAll j S now l (done + 1) z l') where
+    module _ {z : Option Stand} {l' : Work} (T : TurnedAll j S now l (done + 1) z l') where
       -- NO ROUND: what stands there stays
-      pub going_none : z.more ≡ false → SettledAll j S from l₀ (record { stand = now; rounds = done }) l'
+      pub going_none : z ≡ None → SettledAll j S from l₀ (record { stand = now; rounds = done }) l'
       unfolding going_stood
       going_none e x =
           let b = job_box j S in
           let r = g.reached x in
-          let o = T (going_stood x) in
-          let same : r.vertices ≡ rounds b j.rounds 1 x.vertices = sym (rounds-none b (j.rounds - done) (done + 1) r.vertices (o.none e)) ∙ r.left in
+          let o = subst (λ (y : Option Stand). Turned j S now l (going_stood x) (done + 1) y l') e (T (going_stood x)) in
+          let same : r.vertices ≡ rounds b j.rounds 1 x.vertices = sym (rounds-none b (j.rounds - done) (done + 1) r.vertices o.none) ∙ r.left in
           record {
-            stands = subst (λ (y : Work). Standing j S (rounds b j.rounds 1 x.vertices) l₀ now y) (sym (o.same e)) (stands_same same r.stands);
-            done = omega (arith, r.counted, done_none b (j.rounds - done) (done + 1) r.vertices (o.none e));
+            stands = subst (λ (y : Work). Standing j S (rounds b j.rounds 1 x.vertices) l₀ now y) (sym o.same) (stands_same same r.stands);
+            done = omega (arith, r.counted, done_none b (j.rounds - done) (done + 1) r.vertices o.none);
           }
 
       -- ONE ROUND MORE
-      pub going_turn : z.more ≡ true → done < j.rounds → (room' : List ℕ) → length l'.table ≡ length l.table → length l'.positions ≡ length l.positions
+      pub going_turn : {d : Stand} → z ≡ Some d → done < j.rounds → (room' : List ℕ) → length l'.table ≡ length l.table → length l'.positions ≡ length l.positions
           → length l'.book ≡ length l.book → length l'.triangles ≡ length l.triangles → length room' ≡ length room
-          → Going j S from l₀ m room₀ (done + 1) z.stand l' room'
+          → Going j S from l₀ m room₀ (done + 1) d l' room'
       unfolding going_stood
-      going_turn e few room' lt lp lk ltr lr = record {
+      going_turn {d} e few room' lt lp lk ltr lr = record {
         low = omega arith;
         reached = one;
         first = g.first;
@@ -101,19 +100,19 @@ module _ {j : Job} {S : List Float} {from : Stand} {m : List ℕ} {l₀ : Work} 
         long_book = lk ∙ g.long_book;
       }
         where
-          one : (x : Stood j S from l₀) → Reached j S from l₀ x (done + 1) z.stand l'
+          one : (x : Stood j S from l₀) → Reached j S from l₀ x (done + 1) d l'
           one x =
               let b = job_box j S in
               let r = g.reached x in
-              let o = T (going_stood x) in
-              let w = o.some e in
+              let o = subst (λ (y : Option Stand). Turned j S now l (going_stood x) (done + 1) y l') e (T (going_stood x)) in
+              let w = o.some in
               let st : Stage b (rollback (done + 1) (owners b r.vertices) r.vertices) = again (done + 1) r.stage in
               let a : j.rounds - done ≡ suc (j.rounds - (done + 1)) = omega arith in
               let i : suc (done + 1) ≡ done + 1 + 1 = omega arith in
               record {
                 vertices = rollback (done + 1) (owners b r.vertices) r.vertices;
                 stage = st;
-                stands = stands_over r.stands (o.stands e) (round_more b (done + 1) r.stage)
+                stands = stands_over r.stands o.stands (round_more b (done + 1) r.stage)
                     (stage_space j S fit l₀.positions l₀.book st g.first.lists.positions g.first.lists.book)
                     (round_longer b (sample_sound j.sides S j.threshold j.cluster fit) r.stage (done + 1))
                     (mesh_room j S fit (rollback (done + 1) (owners b r.vertices) r.vertices) l₀.triangles (omega (arith, g.first.lists.triangles)));
@@ -130,7 +129,7 @@ module _ {j : Job} {S : List Float} {from : Stand} {m : List ℕ} {l₀ : Work} 
               }
 
     -- ALL ROUNDS
-    pub going_done : j.rounds ≤ done → SettledAll j S from l₀ (record { stand = now; rounds = done }) l
+    pub going_done : j.rounds ≤ done → SettledAll j S from l₀ (record { stand = now; rounds = j.rounds }) l
     unfolding rounds rounds_done
     going_done few x =
         let b = job_box j S in
@@ -138,4 +137,4 @@ module _ {j : Job} {S : List Float} {from : Stand} {m : List ℕ} {l₀ : Work} 
         let a : j.rounds - done ≡ 0 = omega arith in
         let e : r.vertices ≡ rounds b j.rounds 1 x.vertices = ap (λ (y : ℕ). rounds b y (done + 1) r.vertices) (sym a) ∙ r.left in
         let d : rounds_done b (j.rounds - done) (done + 1) r.vertices ≡ 0 = ap (λ (y : ℕ). rounds_done b y (done + 1) r.vertices) a in
-        record { stands = stands_same e r.stands; done = omega (arith, r.counted, d) }
+        record { stands = stands_same e r.stands; done = omega (arith, g.low, r.counted, d) }

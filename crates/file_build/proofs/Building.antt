@@ -1,6 +1,5 @@
 -- A count file read and built in lent lists: the ways out of `build_file`, and what it promises determines. Assumes nothing.
 use mathlib.Core.Path.{◌≡◌, refl, sym, ap, ap₂, subst, ◌∙◌}
-use mathlib.Core.Bool.{Bool, true, false, true≢false}
 use mathlib.Core.List.{List, [], ◌∷◌}
 use Prim.Native.Nat.{ℕ, zero, suc, ◌+◌, ◌-◌, ◌≤◌}
 use native.Mathlib.Omega.{arith}
@@ -13,9 +12,11 @@ use Rattle.points.specs.declared.Frame.{Frame}
 use Rattle.count_file.specs.declared.Head.{Head}
 use Rattle.count_file.specs.declared.Parsed.{Parsed}
 use Rattle.count_file.specs.CountFile.{CountFile}
-use Rattle.count_file.specs.Parsed.{accepted, Accepted, parsed_as, ParsedOf}
+use Rattle.std.specs.Prelude.{Some, None}
+use Rattle.std.specs.Option.{IsSome}
+use Rattle.count_file.specs.Parsed.{accepted, Accepted, Refused}
 use Rattle.count_file.proofs.Heads.{says-left}
-use Rattle.count_file.proofs.Files.{file_unique, good_exactly, accepted-samples}
+use Rattle.count_file.proofs.Files.{file_unique, accepted-samples}
 use Rattle.build.specs.declared.Answer.{Answer}
 use Rattle.build.specs.Answer.{Order, order, answer_of, refused_answer, Lists, lengths_of, lists_after, BuildOf, BuildIn}
 use Rattle.file_build.specs.declared.Built.{Built}
@@ -42,33 +43,23 @@ take_floats zero l = refl
 take_floats (suc k) [] = refl
 take_floats (suc k) (x ∷ l) = ap (λ (r : List Float). of_bits binary64 x ∷ r) (take_floats k l)
 
-accepted-room : (s : List ℕ) (p : Parsed) → Accepted s p → p.sites ≤ length (floats_of p.samples)
+pub read-room : (s : List ℕ) (p : Parsed) → Accepted s p → p.sites ≤ length (floats_of p.samples)
 unfolding floats_of
-accepted-room s p a =
+read-room s p a =
     let n = a.samples in
     let h : p.sites ≡ length n = ap (λ (q : Parsed). q.sites) a.is in
     let z : List ℕ = replicate (216 - length n) 0 in
     let l : length p.samples ≡ length n + length z = ap (λ (q : Parsed). length q.samples) a.is ∙ length-append n z in
     omega (arith, length-map p.samples (of_bits binary64))
 
-pub read-room : (s : List ℕ) (p : Parsed) → ParsedOf s p → p.good ≡ true → p.sites ≤ length (floats_of p.samples)
-read-room s p r e = accepted-room s p ((good_exactly s p r).0 e)
+module _ (s : List ℕ) (l l' : Lists) (b : Answer) where
+  pub read-built : (p : Parsed) → Accepted s p → BuildOf (file_order p.head (take p.sites (floats_of p.samples)) (lengths_of l)) l l' b → BuiltOf s l l' (record { file = Some p; answer = b })
+  read-built p a d =
+      let q : take p.sites (floats_of p.samples) ≡ floats_of a.samples = take_floats p.sites p.samples ∙ ap floats_of (accepted-samples s p a) in
+      built p.head a.samples a.file (ap Some a.is) (subst (λ (S : List Float). BuildOf (file_order p.head S (lengths_of l)) l l' b) q d)
 
-module _ (s : List ℕ) (p : Parsed) (r : ParsedOf s p) (l l' : Lists) (b : Answer) where
-  pub read-built : p.good ≡ true → BuildOf (file_order p.head (take p.sites (floats_of p.samples)) (lengths_of l)) l l' b → BuiltOf s l l' (record { file = p; answer = b })
-  read-built e d = go ((good_exactly s p r).0 e)
-    where
-      go : Accepted s p → BuiltOf s l l' (record { file = p; answer = b })
-      go a =
-          let q : take p.sites (floats_of p.samples) ≡ floats_of a.samples = take_floats p.sites p.samples ∙ ap floats_of (accepted-samples s p a) in
-          built p.head a.samples a.file a.is (subst (λ (S : List Float). BuildOf (file_order p.head S (lengths_of l)) l l' b) q d)
-
-  pub unread-built : p.good ≡ false → b ≡ refused_answer 8 → l' ≡ l → BuiltOf s l l' (record { file = p; answer = b })
-  unread-built e d k = go p.good e r
-    where
-      go : (g : Bool) → g ≡ false → parsed_as g s p → BuiltOf s l l' (record { file = p; answer = b })
-      go true q a = absurd (true≢false q)
-      go false q a = unbuilt a.none a.is d k
+  pub unread-built : Refused s → b ≡ refused_answer 8 → l' ≡ l → BuiltOf s l l' (record { file = None; answer = b })
+  unread-built p d k = unbuilt p.none refl d k
 
 -- ---- ANY TWO CONFORMING ANSWERS ARE EQUAL
 
@@ -76,7 +67,7 @@ pub built_unique : {s : List ℕ} {l x y : Lists} {r q : Built} → BuiltOf s l 
 built_unique {s} {l} {r = r} {q = q} (built hd ss f e b) (built he rs g d c) =
     let u = file_unique s hd ss he rs f g in
     let o : file_order hd (floats_of ss) (lengths_of l) ≡ file_order he (floats_of rs) (lengths_of l) = ap₂ (λ (v : Head) (t : List ℕ). file_order v (floats_of t) (lengths_of l)) u.0 u.1 in
-    let p : r.file ≡ q.file = e ∙ ap₂ accepted u.0 u.1 ∙ sym d in
+    let p : r.file ≡ q.file = e ∙ ap₂ (λ (v : Head) (t : List ℕ). Some (accepted v t)) u.0 u.1 ∙ sym d in
     let a : r.answer ≡ q.answer = b.answer ∙ ap answer_of o ∙ sym c.answer in
     (b.after ∙ ap (λ (z : Order). lists_after z l) o ∙ sym c.after, λ i. record { file = p i; answer = a i })
 built_unique (built hd ss f e b) (unbuilt z d a k) = absurd (z hd ss f)
@@ -85,24 +76,35 @@ built_unique (unbuilt z d a k) (unbuilt y e b h) = (k ∙ sym h, λ i. record { 
 
 -- ---- what was built, by what was read
 
+some_same : {p q : Parsed} → Some p ≡ Some q → p ≡ q
+some_same e = cc
+
+some_none : {p : Parsed} → Some p ≡ None → ⊥
+some_none e = cc
+
 module _ {s : List ℕ} {l l' : Lists} {r : Built} where
-  built-accepted : BuiltOf s l l' r → (r.answer.status ≡ 8 → ⊥) → Accepted s r.file
+  -- a file was read where the answer is another than 8
+  pub built-some : BuiltOf s l l' r → (r.answer.status ≡ 8 → ⊥) → IsSome r.file
   unfolding refused_answer
-  built-accepted (built hd ss f e b) z =
-      let h : hd ≡ r.file.head = sym (ap (λ (p : Parsed). p.head) e) in
-      record { samples = ss; file = rw h at f; is = e ∙ ap (λ (v : Head). accepted v ss) h }
-  built-accepted (unbuilt n d a k) z = absurd (z (ap (λ (x : Answer). x.status) a))
+  built-some (built hd ss f e b) z = rw e refl
+  built-some (unbuilt n d a k) z = absurd (z (ap (λ (x : Answer). x.status) a))
 
-  pub built-room : BuiltOf s l l' r → (r.answer.status ≡ 8 → ⊥) → r.file.sites ≤ length (floats_of r.file.samples)
-  built-room b z = accepted-room s r.file (built-accepted b z)
+  module _ (p : Parsed) (is : r.file ≡ Some p) where
+    built-accepted : BuiltOf s l l' r → Accepted s p
+    built-accepted (built hd ss f e b) =
+        let a : p ≡ accepted hd ss = some_same (sym is ∙ e) in
+        let h : hd ≡ p.head = sym (ap (λ (p : Parsed). p.head) a) in
+        record { samples = ss; file = rw h at f; is = a ∙ ap (λ (v : Head). accepted v ss) h }
+    built-accepted (unbuilt n d a k) = absurd (some_none (sym is ∙ d))
 
-  pub built-read : BuiltOf s l l' r → (r.answer.status ≡ 8 → ⊥)
-      → BuildOf (file_order r.file.head (take r.file.sites (floats_of r.file.samples)) (lengths_of l)) l l' r.answer
-  unfolding refused_answer
-  built-read (built hd ss f e b) z =
-      let h : hd ≡ r.file.head = sym (ap (λ (p : Parsed). p.head) e) in
-      let a : Accepted s r.file = built-accepted (built hd ss f e b) z in
-      let u : ss ≡ a.samples = (file_unique s hd ss r.file.head a.samples f a.file).1 in
-      let q : floats_of ss ≡ take r.file.sites (floats_of r.file.samples) = ap floats_of (u ∙ sym (accepted-samples s r.file a)) ∙ sym (take_floats r.file.sites r.file.samples) in
-      subst (λ (o : Order). BuildOf o l l' r.answer) (ap₂ (λ (v : Head) (S : List Float). file_order v S (lengths_of l)) h q) b
-  built-read (unbuilt n d a k) z = absurd (z (ap (λ (x : Answer). x.status) a))
+    pub built-room : BuiltOf s l l' r → p.sites ≤ length (floats_of p.samples)
+    built-room b = read-room s p (built-accepted b)
+
+    pub built-read : BuiltOf s l l' r → BuildOf (file_order p.head (take p.sites (floats_of p.samples)) (lengths_of l)) l l' r.answer
+    built-read (built hd ss f e b) =
+        let h : hd ≡ p.head = sym (ap (λ (p : Parsed). p.head) (some_same (sym is ∙ e))) in
+        let a : Accepted s p = built-accepted (built hd ss f e b) in
+        let u : ss ≡ a.samples = (file_unique s hd ss p.head a.samples f a.file).1 in
+        let q : floats_of ss ≡ take p.sites (floats_of p.samples) = ap floats_of (u ∙ sym (accepted-samples s p a)) ∙ sym (take_floats p.sites p.samples) in
+        subst (λ (o : Order). BuildOf o l l' r.answer) (ap₂ (λ (v : Head) (S : List Float). file_order v S (lengths_of l)) h q) b
+    built-read (unbuilt n d a k) = absurd (some_none (sym is ∙ d))

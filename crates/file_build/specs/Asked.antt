@@ -1,5 +1,5 @@
 -- What a count file asks for, and what is built of it (docs/SCOPE.md, S10). Assumes nothing.
-use Rattle.std.specs.Prelude.{◌≡◌, List, map, ℕ, get_or, Float}
+use Rattle.std.specs.Prelude.{◌≡◌, Some, None, List, map, ℕ, get_or, Float}
 use Rattle.std.specs.Float.{binary64}
 use Rattle.std.specs.Float.Ieee.{of_bits}
 use Rattle.lattice.specs.declared.Sides.{Sides}
@@ -10,7 +10,7 @@ use Rattle.refusals.specs.declared.Lengths.{Lengths}
 use Rattle.build.specs.Answer.{Order, order, refused_answer, Lists, lengths_of, BuildOf}
 use Rattle.count_file.specs.declared.Head.{Head}
 use Rattle.count_file.specs.CountFile.{CountFile}
-use Rattle.count_file.specs.Parsed.{accepted, refusal}
+use Rattle.count_file.specs.Parsed.{accepted}
 use Rattle.file_build.specs.declared.Built.{Built}
 
 -- ---- what the values of a file ask for; the sizes of a header are nu, nv, nw, method and rounds
@@ -46,5 +46,5 @@ work_order h S = file_order h S work_space
 
 -- the input s, read and built in the lists l: as its values ask where s is a count file; status 8 and every list as it was where it is none
 pub data BuiltOf (s : List ℕ) (l l' : Lists) (r : Built) : Type 0 where
-  built : (h : Head) (ss : List ℕ) → CountFile s h ss → r.file ≡ accepted h ss → BuildOf (file_order h (floats_of ss) (lengths_of l)) l l' r.answer → BuiltOf s l l' r
-  unbuilt : ((h : Head) (ss : List ℕ) → CountFile s h ss → ⊥) → r.file ≡ refusal → r.answer ≡ refused_answer 8 → l' ≡ l → BuiltOf s l l' r
+  built : (h : Head) (ss : List ℕ) → CountFile s h ss → r.file ≡ Some (accepted h ss) → BuildOf (file_order h (floats_of ss) (lengths_of l)) l l' r.answer → BuiltOf s l l' r
+  unbuilt : ((h : Head) (ss : List ℕ) → CountFile s h ss → ⊥) → r.file ≡ None → r.answer ≡ refused_answer 8 → l' ≡ l → BuiltOf s l l' r

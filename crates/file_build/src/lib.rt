@@ -53,11 +53,7 @@ pub fn inside_of(head: Head) -> f64
 pub fn floats_of(bits: [u64; count_file::SITES]) -> [f64; count_file::SITES]
     ensures { result ≡ floats_of bits }
 {
-    let mut r = [0.0; count_file::SITES];
-    for k in 0..count_file::SITES {
-        r[k] = points::float_of_bits(bits[k]);
-    }
-    r
+    bits.map(points::float_of_bits)
 }
 
 // The build that a header and its samples ask for.
@@ -85,10 +81,10 @@ fn build_head(
     )
 }
 
-// What was read of an input, and what was built of it: `answer` has status 8 and zeros where the input is no count file.
+// What was read of an input, and what was built of it: where the input is no count file there is no `file`, and `answer` has status 8 and zeros.
 #[derive(Clone, Copy)]
 pub struct Built {
-    pub file: Parsed,
+    pub file: Option<Parsed>,
     pub answer: Answer,
 }
 
@@ -104,24 +100,27 @@ pub fn build_file(
 ) -> Built
     ensures { BuiltOf input.now (lists masks.old table.old positions.old book.old triangles.old edges.old) (lists masks.new table.new positions.new book.new triangles.new edges.new) result }
 {
-    let file = count_file::read_file(input);
-    if file.good {
-        let head = file.head;
-        let bits = file.samples;
-        let k = file.sites;
-        let samples = floats_of(bits);
-        let answer = build_head(
-            head,
-            &samples[..k],
-            masks,
-            table,
-            positions,
-            book,
-            triangles,
-            edges,
-        );
-        return Built { file, answer };
+    match count_file::read_file(input) {
+        Some(file) => {
+            let samples = floats_of(file.samples);
+            let answer = build_head(
+                file.head,
+                &samples[..file.sites],
+                masks,
+                table,
+                positions,
+                book,
+                triangles,
+                edges,
+            );
+            Built {
+                file: Some(file),
+                answer,
+            }
+        }
+        None => Built {
+            file: None,
+            answer: build::refused(8),
+        },
     }
-    let answer = build::refused(8);
-    Built { file, answer }
 }

@@ -1,4 +1,5 @@
 -- The site across an edge: it is in the box, the way back leads home, its number, and its owner by ijk. Assumes nothing.
+use Rattle.std.specs.Prelude.{Option, None, Some}
 use mathlib.Core.Path.{◌≡◌, refl, sym, ap, ◌∙◌, subst}
 use mathlib.Core.Bool.{Bool, true, false, ◌&&◌, cond}
 use mathlib.Core.Logic.{⊎_elim}
@@ -16,8 +17,6 @@ use Rattle.tables.proofs.Edges.{offset-eq, reverse-delta, label_delta, along, st
 use Rattle.lattice.specs.declared.Sides.{Sides}
 use Rattle.lattice.specs.declared.Uvw.{Uvw}
 use Rattle.lattice.specs.declared.Ijk.{Ijk}
-use Rattle.lattice.specs.declared.OtherEnd.{OtherEnd}
-use Rattle.lattice.specs.declared.OtherEnd.TheVariants.{Missing, At}
 use Rattle.lattice.specs.Sites.{SidesFit, sites, in_box, InBox, site_of, uvw_of, step, ijk_of}
 use Rattle.lattice.specs.Across.{upward, downward, across_at, across_of}
 use Rattle.lattice.specs.Owner.{from_to, label_of, owned, owner_of}
@@ -26,7 +25,7 @@ use Rattle.lattice.proofs.Owner.{delta_label, label_offset}
 
 -- ---- the two ways
 
-at_one : (b : Bool) (x t : ℕ) → cond b (At x) Missing ≡ At t → (b ≡ true) × (x ≡ t)
+at_one : (b : Bool) (x t : ℕ) → cond b (Some x) None ≡ Some t → (b ≡ true) × (x ≡ t)
 at_one true x t e = (refl, cc)
 at_one false x t e = let z : ◌≡◌ {A = ℕ} 0 1 = cc in absurd (omega arith)
 
@@ -58,7 +57,7 @@ uvw_eq : {a b c x y z : ℕ} → a ≡ x → b ≡ y → c ≡ z → ◌≡◌ {
 uvw_eq p q r = λ i. record { u = p i; v = q i; w = r i }
 
 module _ (n : Sides) where
-  up-found : (p : Uvw) (c t : ℕ) → upward n p.u p.v p.w c ≡ At t
+  up-found : (p : Uvw) (c t : ℕ) → upward n p.u p.v p.w c ≡ Some t
       → Above n p (stepped p c) c × (site_of n (stepped p c).u (stepped p c).v (stepped p c).w ≡ t)
   unfolding upward
   up-found p c t e =
@@ -74,7 +73,7 @@ module _ (n : Sides) where
       )
 
   -- what is above is found, and the way down from it leads back
-  pub up-finds : (p q : Uvw) (c : ℕ) → Above n p q c → upward n p.u p.v p.w c ≡ At (site_of n q.u q.v q.w)
+  pub up-finds : (p q : Uvw) (c : ℕ) → Above n p q c → upward n p.u p.v p.w c ≡ Some (site_of n q.u q.v q.w)
   unfolding upward
   up-finds p q c a =
       let s = steps_lt c in
@@ -83,7 +82,7 @@ module _ (n : Sides) where
       let z : step (dw c) p.w ≡ q.w = step-add (dw c) p.w s.2 ∙ sym a.on_w in
       rw (x, y, z, in_box_lem n q a.box)
 
-  pub down-finds : (p q : Uvw) (c : ℕ) → Above n p q c → downward n q.u q.v q.w c ≡ At (site_of n p.u p.v p.w)
+  pub down-finds : (p q : Uvw) (c : ℕ) → Above n p q c → downward n q.u q.v q.w c ≡ Some (site_of n p.u p.v p.w)
   unfolding downward
   down-finds p q c a =
       let x : q.u - du c ≡ p.u = omega (arith, a.on_u) in
@@ -91,7 +90,7 @@ module _ (n : Sides) where
       let z : q.w - dw c ≡ p.w = omega (arith, a.on_w) in
       rw (le-leb (du c) q.u (omega (arith, a.on_u)), le-leb (dv c) q.v (omega (arith, a.on_v)), le-leb (dw c) q.w (omega (arith, a.on_w)), x, y, z)
 
-  down-found : (q : Uvw) (c t : ℕ) → InBox n q → downward n q.u q.v q.w c ≡ At t
+  down-found : (q : Uvw) (c t : ℕ) → InBox n q → downward n q.u q.v q.w c ≡ Some t
       → Above n (lowered q c) q c × InBox n (lowered q c) × (site_of n (lowered q c).u (lowered q c).v (lowered q c).w ≡ t)
   unfolding downward
   down-found q c t b e =
@@ -109,41 +108,41 @@ module _ (n : Sides) where
 -- the tests of the code, one law for each way out
 module _ (n : Sides) (p : Uvw) (c : ℕ) where
   moved : upward n p.u p.v p.w c
-      ≡ cond (in_box n (p.u + c % 2) (p.v + c / 2 % 2) (p.w + c / 4 % 2)) (At (site_of n (p.u + c % 2) (p.v + c / 2 % 2) (p.w + c / 4 % 2))) Missing
+      ≡ cond (in_box n (p.u + c % 2) (p.v + c / 2 % 2) (p.w + c / 4 % 2)) (Some (site_of n (p.u + c % 2) (p.v + c / 2 % 2) (p.w + c / 4 % 2))) None
   unfolding upward du dv dw
   moved = rw (step-add (c % 2) p.u (omega arith), step-add (c / 2 % 2) p.v (omega arith), step-add (c / 4 % 2) p.w (omega arith))
 
   pub up_at : (r : ℕ) → p.u + c % 2 < n.nu → p.v + c / 2 % 2 < n.nv → p.w + c / 4 % 2 < n.nw
-      → r ≡ site_of n (p.u + c % 2) (p.v + c / 2 % 2) (p.w + c / 4 % 2) → At r ≡ upward n p.u p.v p.w c
+      → r ≡ site_of n (p.u + c % 2) (p.v + c / 2 % 2) (p.w + c / 4 % 2) → Some r ≡ upward n p.u p.v p.w c
   unfolding in_box
-  up_at r a b d e = ap At e ∙ sym (moved ∙ rw (lt-ltb (p.u + c % 2) n.nu a, lt-ltb (p.v + c / 2 % 2) n.nv b, lt-ltb (p.w + c / 4 % 2) n.nw d))
+  up_at r a b d e = ap Some e ∙ sym (moved ∙ rw (lt-ltb (p.u + c % 2) n.nu a, lt-ltb (p.v + c / 2 % 2) n.nv b, lt-ltb (p.w + c / 4 % 2) n.nw d))
 
-  pub up_past_w : p.u + c % 2 < n.nu → p.v + c / 2 % 2 < n.nv → n.nw ≤ p.w + c / 4 % 2 → Missing ≡ upward n p.u p.v p.w c
+  pub up_past_w : p.u + c % 2 < n.nu → p.v + c / 2 % 2 < n.nv → n.nw ≤ p.w + c / 4 % 2 → None ≡ upward n p.u p.v p.w c
   unfolding in_box
   up_past_w a b d = sym (moved ∙ rw (lt-ltb (p.u + c % 2) n.nu a, lt-ltb (p.v + c / 2 % 2) n.nv b, le-ltb (p.w + c / 4 % 2) n.nw d))
 
-  pub up_past_v : p.u + c % 2 < n.nu → n.nv ≤ p.v + c / 2 % 2 → Missing ≡ upward n p.u p.v p.w c
+  pub up_past_v : p.u + c % 2 < n.nu → n.nv ≤ p.v + c / 2 % 2 → None ≡ upward n p.u p.v p.w c
   unfolding in_box
   up_past_v a b = sym (moved ∙ rw (lt-ltb (p.u + c % 2) n.nu a, le-ltb (p.v + c / 2 % 2) n.nv b))
 
-  pub up_past_u : n.nu ≤ p.u + c % 2 → Missing ≡ upward n p.u p.v p.w c
+  pub up_past_u : n.nu ≤ p.u + c % 2 → None ≡ upward n p.u p.v p.w c
   unfolding in_box
   up_past_u a = sym (moved ∙ rw (le-ltb (p.u + c % 2) n.nu a))
 
   pub down-at : (r : ℕ) → c % 2 ≤ p.u → c / 2 % 2 ≤ p.v → c / 4 % 2 ≤ p.w
-      → r ≡ site_of n (p.u - c % 2) (p.v - c / 2 % 2) (p.w - c / 4 % 2) → At r ≡ downward n p.u p.v p.w c
+      → r ≡ site_of n (p.u - c % 2) (p.v - c / 2 % 2) (p.w - c / 4 % 2) → Some r ≡ downward n p.u p.v p.w c
   unfolding downward du dv dw
-  down-at r a b d e = rw (le-leb (c % 2) p.u a, le-leb (c / 2 % 2) p.v b, le-leb (c / 4 % 2) p.w d) (ap At e)
+  down-at r a b d e = rw (le-leb (c % 2) p.u a, le-leb (c / 2 % 2) p.v b, le-leb (c / 4 % 2) p.w d) (ap Some e)
 
-  pub down_past_w : c % 2 ≤ p.u → c / 2 % 2 ≤ p.v → p.w < c / 4 % 2 → Missing ≡ downward n p.u p.v p.w c
+  pub down_past_w : c % 2 ≤ p.u → c / 2 % 2 ≤ p.v → p.w < c / 4 % 2 → None ≡ downward n p.u p.v p.w c
   unfolding downward du dv dw
   down_past_w a b d = rw (le-leb (c % 2) p.u a, le-leb (c / 2 % 2) p.v b, lt-leb (c / 4 % 2) p.w d)
 
-  pub down_past_v : c % 2 ≤ p.u → p.v < c / 2 % 2 → Missing ≡ downward n p.u p.v p.w c
+  pub down_past_v : c % 2 ≤ p.u → p.v < c / 2 % 2 → None ≡ downward n p.u p.v p.w c
   unfolding downward du dv dw
   down_past_v a b = rw (le-leb (c % 2) p.u a, lt-leb (c / 2 % 2) p.v b)
 
-  pub down_past_u : p.u < c % 2 → Missing ≡ downward n p.u p.v p.w c
+  pub down_past_u : p.u < c % 2 → None ≡ downward n p.u p.v p.w c
   unfolding downward du dv dw
   down_past_u a = rw (lt-leb (c % 2) p.u a)
 
@@ -158,12 +157,12 @@ unfolding across_of across_at
 across-down n s e h k = rw (le-ltb e 7 h, lt-ltb e 14 k)
 
 -- past the fourteen edges nothing lies across
-pub across_far : (n : Sides) (s e : ℕ) → 14 ≤ e → across_of n s e ≡ Missing
+pub across_far : (n : Sides) (s e : ℕ) → 14 ≤ e → across_of n s e ≡ None
 unfolding across_of across_at
 across_far n s e h = rw (le-ltb e 7 (omega arith), le-ltb e 14 h)
 
-pub across-low : (n : Sides) (s e t : ℕ) → across_of n s e ≡ At t → e < 14
-across-low n s e t a = ⊎_elim (λ l. l) (λ l. let z : ◌≡◌ {A = OtherEnd} Missing (At t) = sym (across_far n s e l) ∙ a in let y : ◌≡◌ {A = ℕ} 0 1 = cc in omega arith) (lt-or e 14)
+pub across-low : (n : Sides) (s e t : ℕ) → across_of n s e ≡ Some t → e < 14
+across-low n s e t a = ⊎_elim (λ l. l) (λ l. let z : ◌≡◌ {A = (Option ℕ)} None (Some t) = sym (across_far n s e l) ∙ a in let y : ◌≡◌ {A = ℕ} 0 1 = cc in omega arith) (lt-or e 14)
 
 -- for a site whose coordinates are at hand
 pub above-across : (n : Sides) (p : Uvw) (e : ℕ) → InBox n p → e < 7
@@ -178,7 +177,7 @@ pub record Joined (n : Sides) (s e t : ℕ) : Type 0 where
   pub rises : e < 7 → Above n (uvw_of n s) (uvw_of n t) (corner_of e)
   pub falls : 7 ≤ e → Above n (uvw_of n t) (uvw_of n s) (corner_of (e - 7))
 
-pub across-joined : (n : Sides) (s e t : ℕ) → SidesFit n → s < sites n → across_of n s e ≡ At t → Joined n s e t
+pub across-joined : (n : Sides) (s e t : ℕ) → SidesFit n → s < sites n → across_of n s e ≡ Some t → Joined n s e t
 across-joined n s e t f h a = ⊎_elim (λ l. low l) (λ l. high l) (lt-or e 7)
   where
     low : e < 7 → Joined n s e t
@@ -205,13 +204,13 @@ across-joined n s e t f h a = ⊎_elim (λ l. low l) (λ l. high l) (lt-or e 7)
           falls = λ k. subst (λ (x : Uvw). Above n x p (corner_of (e - 7))) (sym q) r.0;
         }
 
-pub joined-across : (n : Sides) (s e t : ℕ) → Joined n s e t → across_of n s e ≡ At t
+pub joined-across : (n : Sides) (s e t : ℕ) → Joined n s e t → across_of n s e ≡ Some t
 joined-across n s e t j =
-    ⊎_elim (λ l. across-up n s e l ∙ up-finds n (uvw_of n s) (uvw_of n t) (corner_of e) (j.rises l) ∙ ap At (site_uvw n t))
-    (λ l. across-down n s e l j.label ∙ down-finds n (uvw_of n t) (uvw_of n s) (corner_of (e - 7)) (j.falls l) ∙ ap At (site_uvw n t)) (lt-or e 7)
+    ⊎_elim (λ l. across-up n s e l ∙ up-finds n (uvw_of n s) (uvw_of n t) (corner_of e) (j.rises l) ∙ ap Some (site_uvw n t))
+    (λ l. across-down n s e l j.label ∙ down-finds n (uvw_of n t) (uvw_of n s) (corner_of (e - 7)) (j.falls l) ∙ ap Some (site_uvw n t)) (lt-or e 7)
 
 -- the way back
-pub across_back : (n : Sides) (s e t : ℕ) → SidesFit n → s < sites n → e < 14 → across_of n s e ≡ At t → across_of n t (reverse e) ≡ At s
+pub across_back : (n : Sides) (s e t : ℕ) → SidesFit n → s < sites n → e < 14 → across_of n s e ≡ Some t → across_of n t (reverse e) ≡ Some s
 unfolding reverse
 across_back n s e t f h k a =
     let j = across-joined n s e t f h a in
@@ -268,7 +267,7 @@ back_delta e l k =
     let r : (e - 7 + 7) % 14 ≡ e = omega arith in
     ap delta (sym r) ∙ reverse-delta (e - 7) (omega arith) ∙ ap negative (label_delta (e - 7) (omega arith))
 
-pub across-offset : (n : Sides) (s e t : ℕ) → SidesFit n → s < sites n → e < 14 → across_of n s e ≡ At t → from_to (ijk_at n s) (ijk_at n t) ≡ delta e
+pub across-offset : (n : Sides) (s e t : ℕ) → SidesFit n → s < sites n → e < 14 → across_of n s e ≡ Some t → from_to (ijk_at n s) (ijk_at n t) ≡ delta e
 across-offset n s e t f h k a =
     let j = across-joined n s e t f h a in
     ⊎_elim (λ l. above-offset n (uvw_of n s) (uvw_of n t) (corner_of e) (j.rises l) ∙ sym (label_delta e l))
@@ -290,7 +289,7 @@ offset-above n p q c b e =
     record { box = b; on_u = omega (arith, x, y, z); on_v = omega (arith, x, y, z); on_w = omega (arith, z) }
 
 -- where the offset of two sites of the box is a delta, the one lies across that edge of the other
-pub offset-across : (n : Sides) (s e t : ℕ) → SidesFit n → s < sites n → t < sites n → e < 14 → from_to (ijk_at n s) (ijk_at n t) ≡ delta e → across_of n s e ≡ At t
+pub offset-across : (n : Sides) (s e t : ℕ) → SidesFit n → s < sites n → t < sites n → e < 14 → from_to (ijk_at n s) (ijk_at n t) ≡ delta e → across_of n s e ≡ Some t
 offset-across n s e t f hs ht k d =
     joined-across n s e t (record {
       label = k;
@@ -303,13 +302,13 @@ offset-across n s e t f hs ht k d =
     twice : (x : Delta) → negative (negative x) ≡ x
     twice x = offset-eq (neg_ℤ-neg_ℤ x.i) (neg_ℤ-neg_ℤ x.j) (neg_ℤ-neg_ℤ x.k)
 
-pub across-owner : (n : Sides) (s e t : ℕ) → SidesFit n → s < sites n → e < 14 → across_of n s e ≡ At t
+pub across-owner : (n : Sides) (s e t : ℕ) → SidesFit n → s < sites n → e < 14 → across_of n s e ≡ Some t
     → owner_of (ijk_at n s) (ijk_at n t) ≡ owned (ijk_at n s) (ijk_at n t) e
 unfolding owner_of
 across-owner n s e t f h k a = ap (owned (ijk_at n s) (ijk_at n t)) (ap label_of (across-offset n s e t f h k a) ∙ delta_label e k)
 
 -- and the owner by ijk says who lies across
 pub owner-across : (n : Sides) (s t : ℕ) → SidesFit n → s < sites n → t < sites n → label_of (from_to (ijk_at n s) (ijk_at n t)) < 14
-    → across_of n s (label_of (from_to (ijk_at n s) (ijk_at n t))) ≡ At t
+    → across_of n s (label_of (from_to (ijk_at n s) (ijk_at n t))) ≡ Some t
 owner-across n s t f hs ht h =
     offset-across n s (label_of (from_to (ijk_at n s) (ijk_at n t))) t f hs ht h (label_offset (from_to (ijk_at n s) (ijk_at n t)) h)

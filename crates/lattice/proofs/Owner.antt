@@ -22,8 +22,8 @@ use Rattle.tables.specs.declared.Delta.{Delta}
 use Rattle.tables.specs.Edges.{offset, same_z, same, deltas, delta}
 use Rattle.tables.proofs.Edges.{same_z→eq, same→eq}
 use Rattle.lattice.specs.declared.Ijk.{Ijk}
-use Rattle.lattice.specs.declared.EdgeOwner.TheVariants.{NoEdge, Owned}
-use Rattle.lattice.specs.Owner.{from_to, place, label_of, owned, owner_of, gap, gap_place, gap_label}
+use Rattle.std.specs.Prelude.{None, Some}
+use Rattle.lattice.specs.Owner.{from_to, place, label_of, of_owner, owned, owner_of, gap, gap_place, gap_label}
 
 -- ---- a signed number by its parts
 
@@ -284,14 +284,14 @@ owner_label u v x y z e ui uj uk vi vj vk p q r s =
     s ∙ (λ i. gap_label ((p ∙ a) i) ((q ∙ b) i) ((r ∙ c) i)) ∙ sym (label_gaps (from_to u v))
 
 module _ (u v : Ijk) (e : ℕ) (is : e ≡ label_of (from_to u v)) where
-  pub own_first : e < 7 → Owned u v e ≡ owner_of u v
+  pub own_first : e < 7 → Some (of_owner u v e) ≡ owner_of u v
   unfolding owner_of owned
   own_first h = rw (sym is, lt-ltb e 7 h)
 
-  pub own_other : 7 ≤ e → e < 14 → Owned v u (e - 7) ≡ owner_of u v
+  pub own_other : 7 ≤ e → e < 14 → Some (of_owner v u (e - 7)) ≡ owner_of u v
   unfolding owner_of owned
   own_other l h = rw (sym is, le-ltb e 7 l, lt-ltb e 14 h)
 
-  pub own-none : 14 ≤ e → NoEdge ≡ owner_of u v
+  pub own-none : 14 ≤ e → None ≡ owner_of u v
   unfolding owner_of owned
   own-none h = rw (sym is, le-ltb e 7 (omega arith), le-ltb e 14 h)

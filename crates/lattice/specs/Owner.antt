@@ -1,10 +1,9 @@
 -- The owner of an edge: labels 0 to 6 belong to the first end, 7 to 13 to the other under the reverse label; anything else is no edge. Assumes nothing.
-use Rattle.std.specs.Prelude.{◌&&◌, cond, List, [], ◌∷◌, ℕ, zero, suc, ◌-◌, eqb, ltb, ℤ, pos, negsuc, ◌-ℤ◌}
+use Rattle.std.specs.Prelude.{Option, None, Some, ◌&&◌, cond, List, [], ◌∷◌, ℕ, zero, suc, ◌-◌, eqb, ltb, ℤ, pos, negsuc, ◌-ℤ◌}
 use Rattle.tables.specs.declared.Delta.{Delta}
 use Rattle.tables.specs.Edges.{offset, same, deltas}
 use Rattle.lattice.specs.declared.Ijk.{Ijk}
 use Rattle.lattice.specs.declared.EdgeOwner.{EdgeOwner}
-use Rattle.lattice.specs.declared.EdgeOwner.TheVariants.{NoEdge, Owned}
 
 -- the offset from u to v, in whole numbers without a limit
 abbrev pub from_to : Ijk → Ijk → Delta
@@ -18,10 +17,14 @@ place d (e ∷ es) = cond (same d e) 0 (suc (place d es))
 unfoldable pub label_of : Delta → ℕ
 label_of d = place d deltas
 
-unfoldable pub owned : Ijk → Ijk → ℕ → EdgeOwner
-owned u v e = cond (ltb e 7) (Owned u v e) (cond (ltb e 14) (Owned v u (e - 7)) NoEdge)
+-- the edge of the owner u and its label e, which leads to v
+abbrev pub of_owner : Ijk → Ijk → ℕ → EdgeOwner
+of_owner u v e = record { owner = u; other = v; label = e }
 
-unfoldable pub owner_of : Ijk → Ijk → EdgeOwner
+unfoldable pub owned : Ijk → Ijk → ℕ → Option EdgeOwner
+owned u v e = cond (ltb e 7) (Some (of_owner u v e)) (cond (ltb e 14) (Some (of_owner v u (e - 7))) None)
+
+unfoldable pub owner_of : Ijk → Ijk → Option EdgeOwner
 owner_of u v = owned u v (label_of (from_to u v))
 
 -- ---- the same by small numbers: -2 to 2 are 0 to 4, all else is 5

@@ -32,18 +32,12 @@ pub struct Ijk {
     pub k: i64,
 }
 
-// What lies across an edge: nothing outside the box.
+// An edge as its owner sees it: the owner, the other end, and the owner's label.
 #[derive(Clone, Copy)]
-pub enum OtherEnd {
-    Missing,
-    At(usize),
-}
-
-// Who owns the edge between two places: the owner, the other end, and the owner's label.
-#[derive(Clone, Copy)]
-pub enum EdgeOwner {
-    NoEdge,
-    Owned(Ijk, Ijk, usize),
+pub struct EdgeOwner {
+    pub owner: Ijk,
+    pub other: Ijk,
+    pub label: usize,
 }
 
 fn side_ok(n: usize) -> bool
@@ -139,8 +133,8 @@ pub fn ijk_of(p: Uvw) -> Ijk
     Ijk { i, j, k }
 }
 
-// The corner c of the cell above p.
-fn up(n: Sides, p: Uvw, c: usize) -> OtherEnd
+// The corner c of the cell above p, if it is in the box.
+fn up(n: Sides, p: Uvw, c: usize) -> Option<usize>
     requires { SidesFit n × InBox n p × (c < 8) }
     ensures { result ≡ upward n p.u p.v p.w c }
 {
@@ -150,15 +144,15 @@ fn up(n: Sides, p: Uvw, c: usize) -> OtherEnd
     if u < n.nu {
         if v < n.nv {
             if w < n.nw {
-                return OtherEnd::At(site_number(n, Uvw { u, v, w }));
+                return Some(site_number(n, Uvw { u, v, w }));
             }
         }
     }
-    OtherEnd::Missing
+    None
 }
 
-// The site at the other end of an owned edge, for a caller that has the coordinates at hand.
-pub fn above(n: Sides, p: Uvw, label: usize) -> OtherEnd
+// The site at the other end of an owned edge, if it is in the box, for a caller that has the coordinates at hand.
+pub fn above(n: Sides, p: Uvw, label: usize) -> Option<usize>
     requires { SidesFit n × InBox n p × (label < 7) }
     ensures { result ≡ across_of n (site_of n p.u p.v p.w) label }
 {
@@ -166,8 +160,8 @@ pub fn above(n: Sides, p: Uvw, label: usize) -> OtherEnd
     up(n, p, c)
 }
 
-// The site of whose cell p is the corner c.
-fn down(n: Sides, p: Uvw, c: usize) -> OtherEnd
+// The site of whose cell p is the corner c, if it is in the box.
+fn down(n: Sides, p: Uvw, c: usize) -> Option<usize>
     requires { SidesFit n × InBox n p × (c < 8) }
     ensures { result ≡ downward n p.u p.v p.w c }
 {
@@ -180,15 +174,15 @@ fn down(n: Sides, p: Uvw, c: usize) -> OtherEnd
                 let u = p.u - du;
                 let v = p.v - dv;
                 let w = p.w - dw;
-                return OtherEnd::At(site_number(n, Uvw { u, v, w }));
+                return Some(site_number(n, Uvw { u, v, w }));
             }
         }
     }
-    OtherEnd::Missing
+    None
 }
 
-// The site at the other end of an edge.
-pub fn across(n: Sides, s: usize, label: usize) -> OtherEnd
+// The site at the other end of an edge, if it is in the box.
+pub fn across(n: Sides, s: usize, label: usize) -> Option<usize>
     requires { SidesFit n × (s < sites n) × (label < 14) }
     ensures { result ≡ across_of n s label }
 {
@@ -248,8 +242,8 @@ fn gap_label(x: usize, y: usize, z: usize) -> usize
     GAP_LABELS[x + 6 * y + 36 * z]
 }
 
-// The owner of the edge from u to v: the end from which the label is 0 to 6.
-pub fn get_edge_owner(u: Ijk, v: Ijk) -> EdgeOwner
+// The owner of the edge from u to v, if there is one: the end from which the label is 0 to 6.
+pub fn get_edge_owner(u: Ijk, v: Ijk) -> Option<EdgeOwner>
     ensures { result ≡ owner_of u v }
 {
     let x = axis_gap(u.i, v.i);
@@ -257,10 +251,18 @@ pub fn get_edge_owner(u: Ijk, v: Ijk) -> EdgeOwner
     let z = axis_gap(u.k, v.k);
     let e = gap_label(x, y, z);
     if e < tables::OWNED_EDGES {
-        return EdgeOwner::Owned(u, v, e);
+        return Some(EdgeOwner {
+            owner: u,
+            other: v,
+            label: e,
+        });
     }
     if e < tables::EDGES {
-        return EdgeOwner::Owned(v, u, e - tables::OWNED_EDGES);
+        return Some(EdgeOwner {
+            owner: v,
+            other: u,
+            label: e - tables::OWNED_EDGES,
+        });
     }
-    EdgeOwner::NoEdge
+    None
 }

@@ -10,53 +10,47 @@ use lib.Seq.{get_or_at}
 use borrow.Author.Tests.{lt-ltb, le-ltb}
 use Rattle.laws.proofs.Lists.{append-apart}
 use Rattle.laws.proofs.Ranges.{lt-or}
+use Rattle.std.specs.Prelude.{Some, None}
 use Rattle.lines.specs.Numbers.{hex_digit, hex}
 use Rattle.lines.specs.Inner.Readers.{hex_val}
 
 -- ---- one digit
 
-pub val_digit : (d : ℕ) → d < 16 → hex_val (hex_digit d) ≡ d
+pub val_digit : (d : ℕ) → d < 16 → hex_val (hex_digit d) ≡ Some d
 unfolding hex_digit hex_val
 val_digit d h = elim (lt-or d 10) [
   | inl t ↦
       let e : 48 + d - 48 ≡ d = omega arith in
-      rw (lt-ltb d 10 t, le-ltb (48 + d) 48 (omega arith), lt-ltb (48 + d) 58 (omega arith)) e
+      rw (lt-ltb d 10 t, le-ltb (48 + d) 48 (omega arith), lt-ltb (48 + d) 58 (omega arith)) (ap Some e)
   | inr t ↦
       let e : 87 + d - 87 ≡ d = omega arith in
-      rw (le-ltb d 10 t, le-ltb (87 + d) 48 (omega arith), le-ltb (87 + d) 58 (omega arith), le-ltb (87 + d) 97 (omega arith), lt-ltb (87 + d) 103 (omega arith)) e
+      rw (le-ltb d 10 t, le-ltb (87 + d) 48 (omega arith), le-ltb (87 + d) 58 (omega arith), le-ltb (87 + d) 97 (omega arith), lt-ltb (87 + d) 103 (omega arith)) (ap Some e)
 ]
 
-pub digit_val : (b : ℕ) → (hex_val b ≡ 16 → ⊥) → hex_digit (hex_val b) ≡ b
+-- what a byte with a value is: a digit below 16, printed as that byte
+pub record DigitOf (b d : ℕ) : Type 0 where
+  pub small : d < 16
+  pub print : hex_digit d ≡ b
+
+pub val_is : (b d : ℕ) → hex_val b ≡ Some d → DigitOf b d
 unfolding hex_digit hex_val
-digit_val b h = elim (lt-or b 48) [
-  | inl t ↦ absurd (h (rw (lt-ltb b 48 t)))
+val_is b d h = elim (lt-or b 48) [
+  | inl t ↦ let h' = rw (lt-ltb b 48 t) at h in cc
   | inr t ↦ elim (lt-or b 58) [
     | inl u ↦
-        let e : 48 + (b - 48) ≡ b = omega arith in
-        rw (le-ltb b 48 t, lt-ltb b 58 u, lt-ltb (b - 48) 10 (omega arith)) e
+        let h' = rw (le-ltb b 48 t, lt-ltb b 58 u) at h in
+        let f : b - 48 ≡ d = cc in
+        let e : 48 + d ≡ b = omega arith in
+        record { small = omega arith; print = rw (lt-ltb d 10 (omega arith)) e }
     | inr u ↦ elim (lt-or b 97) [
-      | inl v ↦ absurd (h (rw (le-ltb b 48 t, le-ltb b 58 u, lt-ltb b 97 v)))
+      | inl v ↦ let h' = rw (le-ltb b 48 t, le-ltb b 58 u, lt-ltb b 97 v) at h in cc
       | inr v ↦ elim (lt-or b 103) [
         | inl w ↦
-            let e : 87 + (b - 87) ≡ b = omega arith in
-            rw (le-ltb b 48 t, le-ltb b 58 u, le-ltb b 97 v, lt-ltb b 103 w, le-ltb (b - 87) 10 (omega arith)) e
-        | inr w ↦ absurd (h (rw (le-ltb b 48 t, le-ltb b 58 u, le-ltb b 97 v, le-ltb b 103 w)))
-      ]
-    ]
-  ]
-]
-
-pub val_le : (b : ℕ) → hex_val b ≤ 16
-unfolding hex_val
-val_le b = elim (lt-or b 48) [
-  | inl t ↦ rw (lt-ltb b 48 t) (omega arith)
-  | inr t ↦ elim (lt-or b 58) [
-    | inl u ↦ rw (le-ltb b 48 t, lt-ltb b 58 u) (omega arith)
-    | inr u ↦ elim (lt-or b 97) [
-      | inl v ↦ rw (le-ltb b 48 t, le-ltb b 58 u, lt-ltb b 97 v) (omega arith)
-      | inr v ↦ elim (lt-or b 103) [
-        | inl w ↦ rw (le-ltb b 48 t, le-ltb b 58 u, le-ltb b 97 v, lt-ltb b 103 w) (omega arith)
-        | inr w ↦ rw (le-ltb b 48 t, le-ltb b 58 u, le-ltb b 97 v, le-ltb b 103 w) (omega arith)
+            let h' = rw (le-ltb b 48 t, le-ltb b 58 u, le-ltb b 97 v, lt-ltb b 103 w) at h in
+            let f : b - 87 ≡ d = cc in
+            let e : 87 + d ≡ b = omega arith in
+            record { small = omega arith; print = rw (le-ltb d 10 (omega arith)) e }
+        | inr w ↦ let h' = rw (le-ltb b 48 t, le-ltb b 58 u, le-ltb b 97 v, le-ltb b 103 w) at h in cc
       ]
     ]
   ]
@@ -77,14 +71,17 @@ hex-more k n d h =
     rw (q, m)
 
 -- each byte of the print is a hex digit
-pub hex_at : (k n j : ℕ) → j < k → hex_val (get_or (hex k n) j 0) < 16
+pub hex_at : (k n j : ℕ) → j < k → hex_val (get_or (hex k n) j 0) ≡ None → ⊥
 unfolding hex
-hex_at zero n j h = absurd (not-suc-le-zero h)
-hex_at (suc k) n j h = elim (lt-or j k) [
-  | inl t ↦ rw (get_or-append (hex k (n / 16)) (hex_digit (n % 16) ∷ []) 0 j (rw (hex-length k (n / 16)) t)) (hex_at k (n / 16) j t)
+hex_at zero n j h e = absurd (not-suc-le-zero h)
+hex_at (suc k) n j h e = elim (lt-or j k) [
+  | inl t ↦
+      let g : get_or (hex k (n / 16) ++ (hex_digit (n % 16) ∷ [])) j 0 ≡ get_or (hex k (n / 16)) j 0 = get_or-append (hex k (n / 16)) (hex_digit (n % 16) ∷ []) 0 j (rw (hex-length k (n / 16)) t) in
+      hex_at k (n / 16) j t (rw g at e)
   | inr t ↦
-      let e : j ≡ k = omega arith in
-      rw (e, get_or_at (hex k (n / 16)) (hex_digit (n % 16)) [] 0 k (hex-length k (n / 16)), val_digit (n % 16) (omega arith)) (omega arith)
+      let i : j ≡ k = omega arith in
+      let v : Some (n % 16) ≡ None = sym (val_digit (n % 16) (omega arith)) ∙ (rw (i, get_or_at (hex k (n / 16)) (hex_digit (n % 16)) [] 0 k (hex-length k (n / 16))) at e) in
+      cc
 ]
 
 -- two numbers of k hex digits that are printed alike are equal
@@ -96,7 +93,8 @@ hex-same (suc k) n m a b e =
     let s = append-apart (hex k (n / 16)) (hex k (m / 16)) (hex_digit (n % 16) ∷ []) (hex_digit (m % 16) ∷ []) (hex-length k (n / 16) ∙ sym (hex-length k (m / 16))) e in
     let l : hex_digit (n % 16) ≡ hex_digit (m % 16) = ap (λ x. get_or x 0 0) s.1 in
     let i : n / 16 ≡ m / 16 = hex-same k (n / 16) (m / 16) (omega (arith, p)) (omega (arith, p)) s.0 in
-    let j : n % 16 ≡ m % 16 = sym (val_digit (n % 16) (omega arith)) ∙ ap hex_val l ∙ val_digit (m % 16) (omega arith) in
+    let v : Some (n % 16) ≡ Some (m % 16) = sym (val_digit (n % 16) (omega arith)) ∙ ap hex_val l ∙ val_digit (m % 16) (omega arith) in
+    let j : n % 16 ≡ m % 16 = cc in
     omega (arith, i, j)
 
 -- ---- sizes

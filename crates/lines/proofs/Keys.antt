@@ -2,36 +2,31 @@
 use mathlib.Core.Path.{◌≡◌, refl, sym, ap, ◌∙◌}
 use mathlib.Core.Bool.{Bool, true, false, ◌&&◌}
 use mathlib.Core.List.{List, [], ◌∷◌, ◌++◌, append_assoc}
-use Prim.Native.Nat.{ℕ, ◌+◌, ◌≤◌, ◌<◌}
+use Prim.Native.Nat.{ℕ, ◌+◌, ◌≤◌}
 use native.Mathlib.Nat.{add_assoc}
-use native.Mathlib.Numerals.{add-one}
 use native.Mathlib.Omega.{arith}
 use lib.Dec.{eqb}
-use lib.ListN.{length, get_or, drop, drop_of_length-le, length-append, length-drop}
-use lib.Seq.{drop-cons, drop-drop, drop-append_seam}
-use borrow.Author.Tests.{eqb-true, eq-eqb, ne_eqb}
+use lib.ListN.{length, drop, take, length-append, length-drop}
+use lib.Seq.{drop-drop, drop-append_seam}
+use borrow.Author.Tests.{eqb-true, eqb-false, eq-eqb, ne_eqb}
 use Rattle.lines.specs.declared.Num.{Num}
-use Rattle.lines.specs.declared.Num.TheVariants.{Bad, Got}
+use Rattle.std.specs.Prelude.{Option, Some, None}
+use Rattle.std.specs.Cmp.Lexicographic.{pointwise}
 use Rattle.lines.specs.Inner.Readers.{Absent, Line, starts}
 
--- ---- byte by byte
+eqb_swap : (a b : ℕ) → eqb a b ≡ eqb b a
+eqb_swap a b = go (eqb a b) refl
+  where
+    go : (t : Bool) → eqb a b ≡ t → eqb a b ≡ eqb b a
+    go true e = let p = eqb-true a b e in rw (e, eq-eqb b a (sym p))
+    go false e = let p = eqb-false a b e in rw (e, ne_eqb b a (λ q. p (sym q)))
 
-pub starts_none : (k l : List ℕ) (i : ℕ) → length k ≤ i → starts (drop i k) l ≡ true
+-- ---- as the library tests it: byte by byte, along the first bytes
+pub starts_pointwise : (k l : List ℕ) → starts k l ≡ pointwise (λ a b. eqb a b) k (take (length k) l)
 unfolding starts
-starts_none k l i h = rw (drop_of_length-le k h)
-
-module _ (k s : List ℕ) (i : ℕ) (h : i < length k) where
-  pub starts-end : (j : ℕ) → length s ≤ j → starts (drop i k) (drop j s) ≡ false
-  unfolding starts
-  starts-end j g = rw (drop-cons k i 0 h, drop_of_length-le s g)
-
-  pub starts-same : (j : ℕ) → j < length s → get_or s j 0 ≡ get_or k i 0 → starts (drop i k) (drop j s) ≡ starts (drop (i + 1) k) (drop (j + 1) s)
-  unfolding starts
-  starts-same j g e = rw (add-one i, add-one j, drop-cons k i 0 h, drop-cons s j 0 g, eq-eqb (get_or s j 0) (get_or k i 0) e)
-
-  pub starts_differ : (j : ℕ) → j < length s → (get_or s j 0 ≡ get_or k i 0 → ⊥) → starts (drop i k) (drop j s) ≡ false
-  unfolding starts
-  starts_differ j g e = rw (drop-cons k i 0 h, drop-cons s j 0 g, ne_eqb (get_or s j 0) (get_or k i 0) e)
+starts_pointwise [] l = refl
+starts_pointwise (k ∷ ks) [] = refl
+starts_pointwise (k ∷ ks) (b ∷ l) = rw (eqb_swap b k, starts_pointwise ks l)
 
 -- ---- what it means
 pub starts_is : (k l : List ℕ) → starts k l ≡ true → l ≡ k ++ drop (length k) l
@@ -72,12 +67,12 @@ module _ (p : ℕ → List ℕ) (ok : ℕ → Type 0) (s : List ℕ) (at : ℕ) 
       let l = ap length (past_key h) in
       omega (arith, simp (length-append, length-drop) at l)
 
-  pub after-key : starts key (drop at s) ≡ true → (r : Num) → Line p ok s (at + length key) r → Line keyed ok s at r
-  after-key h Bad q = record {
+  pub after-key : starts key (drop at s) ≡ true → (r : Option Num) → Line p ok s (at + length key) r → Line keyed ok s at r
+  after-key h None q = record {
     none = λ n rest b e.
         q.none n rest b (rw (e, append_assoc, drop-append_seam) at (sym (drop-drop (length key) at s) ∙ refl));
   }
-  after-key h (Got n next) q = record {
+  after-key h (Some a) q = record {
     fine = q.fine;
     here = past_key h ∙ rw (q.here, append_assoc);
     past = q.past ∙ rw (length-append, add_assoc);

@@ -15,7 +15,7 @@ use Rattle.laws.proofs.Bools.{and-apart}
 use Rattle.laws.proofs.Lists.{append-apart}
 use Rattle.laws.proofs.Ranges.{each_first}
 use Rattle.lines.specs.declared.Num.{Num}
-use Rattle.lines.specs.declared.Num.TheVariants.{Bad, Got}
+use Rattle.std.specs.Prelude.{Option, Some, None}
 use Rattle.lines.specs.Numbers.{dec, hex}
 use Rattle.lines.specs.Lines.{dec_line, Field, Dec, Hex, line_of, ok_of, lines, Fine, none, line}
 use Rattle.lines.specs.Inner.Readers.{Reads, Absent, Line}
@@ -43,20 +43,24 @@ line_same (Hex key) n m r t a b e =
     let q = d.1 in
     record { first = hex-same 16 n m (omega arith) (omega arith) d.0; rest = cc }
 
+num_same : (n m j k : ℕ) → n ≡ m → j ≡ k → ◌≡◌ {A = Num} (record { value = n; next = j }) (record { value = m; next = k })
+num_same n m j k v e = rw (v, e)
+
 -- two answers that conform are equal
-pub line_unique : (f : Field) (s : List ℕ) (at : ℕ) (r q : Num) → Line (line_of f) (ok_of f) s at r → Line (line_of f) (ok_of f) s at q → r ≡ q
-line_unique f s at Bad Bad a b = refl
-line_unique f s at Bad (Got m k) a b = absurd (a.none m (drop k s) b.fine b.here)
-line_unique f s at (Got n j) Bad a b = absurd (b.none n (drop j s) a.fine a.here)
-line_unique f s at (Got n j) (Got m k) a b =
-    let t = line_same f n m (drop j s) (drop k s) a.fine b.fine (sym a.here ∙ b.here) in
-    let e : j ≡ k = a.past ∙ rw t.first (sym b.past) in
-    rw (t.first, e)
+pub line_unique : (f : Field) (s : List ℕ) (at : ℕ) (r q : Option Num) → Line (line_of f) (ok_of f) s at r → Line (line_of f) (ok_of f) s at q → r ≡ q
+line_unique f s at None None a b = refl
+line_unique f s at None (Some q) a b = absurd (a.none q.value (drop q.next s) b.fine b.here)
+line_unique f s at (Some r) None a b = absurd (b.none r.value (drop r.next s) a.fine a.here)
+line_unique f s at (Some r) (Some q) a b =
+    let t = line_same f r.value q.value (drop r.next s) (drop q.next s) a.fine b.fine (sym a.here ∙ b.here) in
+    let v : r.value ≡ q.value = t.first in
+    let e : r.next ≡ q.next = a.past ∙ rw t.first (sym b.past) in
+    ap Some (num_same r.value q.value r.next q.next v e)
 
 -- what is printed reads back as the same number, wherever it stands
-pub line_back : (f : Field) (n : ℕ) (x y : List ℕ) (r : Num) → ok_of f n → Line (line_of f) (ok_of f) (x ++ (line_of f n ++ y)) (length x) r
-    → r ≡ Got n (length x + length (line_of f n))
-line_back f n x y r a q = line_unique f (x ++ (line_of f n ++ y)) (length x) r (Got n (length x + length (line_of f n))) q here
+pub line_back : (f : Field) (n : ℕ) (x y : List ℕ) (r : Option Num) → ok_of f n → Line (line_of f) (ok_of f) (x ++ (line_of f n ++ y)) (length x) r
+    → r ≡ Some (record { value = n; next = length x + length (line_of f n) })
+line_back f n x y r a q = line_unique f (x ++ (line_of f n ++ y)) (length x) r (Some (record { value = n; next = length x + length (line_of f n) })) q here
   where
     after : drop (length x + length (line_of f n)) (x ++ (line_of f n ++ y)) ≡ y
     after = ap (drop (length x + length (line_of f n))) (sym (append_assoc x (line_of f n) y)) ∙ drop_at (x ++ line_of f n) y (length x + length (line_of f n)) (length-append x (line_of f n))

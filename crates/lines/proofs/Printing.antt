@@ -1,9 +1,11 @@
 -- Laws of printing: a number digit by digit, and how long the line of a status can be. Assumes nothing.
-use mathlib.Core.Path.{◌≡◌}
-use mathlib.Core.List.{List}
-use Prim.Native.Nat.{ℕ, ◌+◌, ◌/◌, ◌%◌, ◌^◌, ◌≤◌, ◌<◌}
+use mathlib.Core.Path.{◌≡◌, sym}
+use mathlib.Core.List.{List, append_assoc}
+use Prim.Native.Nat.{ℕ, ◌+◌, ◌-◌, ◌/◌, ◌%◌, ◌^◌, ◌≤◌, ◌<◌}
 use native.Mathlib.Omega.{arith}
 use lib.ListN.{length, set, length-append}
+use lib.Seq.{sets, sets-eq, drop-drop}
+use borrow.Rule.Slice.PartMut.{put_mid}
 use Rattle.laws.specs.Written.{Written}
 use Rattle.laws.proofs.Written.{written_one, written-more}
 use Rattle.lines.specs.Numbers.{dec}
@@ -21,6 +23,13 @@ put_last l l' at mid n h b p = rw (dec_large n h (omega arith)) (written-more p 
 
 pub longer : (n : ℕ) → 10 ≤ n → n < 2 ^ 64 → length (dec n) ≡ length (dec (n / 10)) + 1
 longer n h b = rw (dec_large n h (omega arith), length-append)
+
+-- ---- a part that was copied over
+
+pub part_put : (l r text : List ℕ) (at : ℕ) → at + length text ≤ length l → r ≡ text → put_mid at (at + length text - at) l r ≡ sets l at text
+part_put l r text at h e =
+    let n : at + length text - at ≡ length text = omega arith in
+    rw (n, e, drop-drop) (rw append_assoc at (sym (sets-eq text l at h)))
 
 -- ---- the line of a status
 

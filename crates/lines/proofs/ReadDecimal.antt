@@ -8,7 +8,7 @@ use lib.ListN.{length, get_or, drop, length-append, length-drop, get_or-append}
 use lib.Seq.{drop-cons}
 use Rattle.lines.specs.Numbers.{dec}
 use Rattle.lines.specs.Lines.{dec_end, Small}
-use Rattle.lines.specs.Inner.Readers.{Reads, Absent}
+use Rattle.lines.specs.Inner.Readers.{Absent}
 use Rattle.lines.proofs.Decimals.{dec-small, dec_more, Digit, Run, more, run-append, run-dec, lf_no_digit, span, stops, dec-short, dec_long, dec-zero, dec_some}
 
 pub record Sofar (s : List ℕ) (from n i : ℕ) : Type 0 where
@@ -42,14 +42,6 @@ module _ (s : List ℕ) (from n i : ℕ) (at : Sofar s from n i) where
     where
       pos : (n : ℕ) → (n ≡ 0 → ⊥) → 0 < n
       pos n z = omega arith
-
-  pub got : i < length s → get_or s i 0 ≡ 10 → Reads dec_end Small s from n (i + 1)
-  got h g = record {
-    fine = at.small;
-    here = at.here ∙ rw (next_byte s i h, g, append_assoc);
-    past = rw length-append (omega (arith, at.far));
-    within = omega arith;
-  }
 
   regroup : (m : ℕ) (rest : List ℕ) → drop from s ≡ dec_end m ++ rest → dec n ++ drop i s ≡ dec m ++ 10 ∷ rest
   regroup m rest e = sym at.here ∙ e ∙ append_assoc (dec m) (10 ∷ []) rest

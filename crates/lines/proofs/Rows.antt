@@ -1,14 +1,18 @@
 -- Laws of a string of keys: where key k stands, that it is field k of the list that the string says, and how a walk goes on. Assumes nothing.
 use mathlib.Core.Path.{◌≡◌, refl, sym, ap, ◌∙◌}
-use mathlib.Core.Bool.{Bool, true, false, cond}
+use mathlib.Core.Bool.{Bool, true, false, cond, not}
+use mathlib.Core.Logic.{inl, inr}
 use mathlib.Core.List.{List, [], ◌∷◌}
 use Prim.Native.Nat.{ℕ, zero, suc, ◌+◌, ◌-◌, ◌≤◌, ◌<◌}
 use native.Mathlib.Numerals.{add-one}
 use native.Mathlib.Omega.{arith}
 use lib.Dec.{eqb, leb}
 use lib.ListN.{length, get_or, drop, take, length-drop}
-use lib.Seq.{drop-cons, drop-drop, drop-length, take_all}
-use borrow.Author.Tests.{eq-eqb, ne_eqb, leb-true, leb-false}
+use lib.Seq.{drop-drop, take_all}
+use borrow.Author.Tests.{lt-ltb, le-ltb, leb-true, leb-false}
+use Rattle.laws.proofs.Ranges.{lt-or}
+use Rattle.std.specs.Prelude.{Some, None, position, nat_lt, nat_eq}
+use Rattle.std.specs.List.{position_or_len}
 use Rattle.lines.specs.Lines.{Field, Dec, Hex, lines, Fine}
 use Rattle.lines.specs.Inner.Readers.{Reads}
 use Rattle.lines.specs.Inner.Stored.{Stored}
@@ -35,18 +39,39 @@ key-length (b ∷ l) = go (eqb b 61) (key-length l)
     go true e = omega arith
     go false e = omega arith
 
--- byte by byte
-pub key_last : (l : List ℕ) (i : ℕ) → i < length l → get_or l i 0 ≡ 61 → length (first_key (drop i l)) ≡ 1
+-- a key ends at the first `=`
+key-ends : (l : List ℕ) → length (first_key l) ≡ cond (nat_lt (position_or_len (λ b. nat_eq b 61) l) (length l)) (suc (position_or_len (λ b. nat_eq b 61) l)) (length l)
 unfolding first_key
-key_last l i h e = rw (drop-cons l i 0 h, eq-eqb (get_or l i 0) 61 e)
+key-ends [] = refl
+key-ends (b ∷ l) = go (eqb b 61) (position_or_len (λ b. nat_eq b 61) l) (key-ends l)
+  where
+    step : (p n : ℕ) → suc (cond (nat_lt p n) (suc p) n) ≡ cond (nat_lt (1 + p) (suc n)) (suc (1 + p)) (suc n)
+    step p n = elim (lt-or p n) [
+      | inl t ↦ rw (lt-ltb p n t, lt-ltb (1 + p) (suc n) (omega arith)) (omega arith)
+      | inr t ↦ rw (le-ltb p n t, le-ltb (1 + p) (suc n) (omega arith))
+    ]
 
-pub key-on : (l : List ℕ) (i : ℕ) → i < length l → (get_or l i 0 ≡ 61 → ⊥) → length (first_key (drop i l)) ≡ suc (length (first_key (drop (i + 1) l)))
-unfolding first_key
-key-on l i h e = rw (add-one i, drop-cons l i 0 h, ne_eqb (get_or l i 0) 61 e)
+    go : (t : Bool) (far : ℕ) → length (first_key l) ≡ cond (nat_lt far (length l)) (suc far) (length l)
+        → suc (length (cond t [] (first_key l))) ≡ cond (nat_lt (cond (not t) (1 + far) 0) (suc (length l))) (suc (cond (not t) (1 + far) 0)) (suc (length l))
+    go true far e = rw (lt-ltb 0 (suc (length l)) (omega arith))
+    go false far e = rw e (step far (length l))
 
-pub key-none : (l : List ℕ) → length (first_key (drop (length l) l)) ≡ 0
-unfolding first_key
-key-none l = rw (drop-length l)
+pub key_found : (l : List ℕ) (i : ℕ) → position (λ b. nat_eq b 61) l ≡ Some i → length (first_key l) ≡ suc i
+key_found l i e = let p = position_or_len (λ b. nat_eq b 61) l in
+    elim (lt-or p (length l)) [
+      | inl t ↦
+          let e' = rw (lt-ltb p (length l) t) at e in
+          let f : p ≡ i = cc in
+          rw (← f) (rw (lt-ltb p (length l) t) at (key-ends l))
+      | inr t ↦ let e' = rw (le-ltb p (length l) t) at e in cc
+    ]
+
+pub key_none : (l : List ℕ) → position (λ b. nat_eq b 61) l ≡ None → length (first_key l) ≡ length l
+key_none l e = let p = position_or_len (λ b. nat_eq b 61) l in
+    elim (lt-or p (length l)) [
+      | inl t ↦ let e' = rw (lt-ltb p (length l) t) at e in cc
+      | inr t ↦ rw (le-ltb p (length l) t) at (key-ends l)
+    ]
 
 -- ---- the keys one after the other
 

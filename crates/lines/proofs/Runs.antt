@@ -7,8 +7,7 @@ use native.Mathlib.Numerals.{add-one}
 use native.Mathlib.Omega.{arith}
 use lib.ListN.{length, drop, take, set, get_or, length-set, take-append-drop}
 use lib.Seq.{take-suc, take-suc-set, split_at, take-length, drop-set-lt, drop-drop, length-take-le, take-take, get_or-take}
-use Rattle.lines.specs.declared.Place.{Place}
-use Rattle.lines.specs.declared.Place.TheVariants.{Bad, At}
+use Rattle.std.specs.Prelude.{Option, Some, None}
 use Rattle.lines.specs.Lines.{Field, Dec, line_of, ok_of, lines, Fine}
 use Rattle.lines.specs.Inner.Readers.{Reads, Absent}
 use Rattle.lines.specs.Inner.Stored.{Stored, Filled, Stopped, RunOf}
@@ -75,8 +74,8 @@ module _ (form : List Field) (s : List ℕ) (from : ℕ) (l : List ℕ) where
       let d : drop n l' ≡ drop n l'' = p.past ∙ sym q.past in
       (sym (take-append-drop n l') ∙ rw (t.first, d) (take-append-drop n l''), p.reads.past ∙ rw t.first (sym q.reads.past))
 
-  pub run_unique : (n : ℕ) (l' l'' : List ℕ) (r q : Place) → RunOf form s from n l l' r → RunOf form s from n l l'' q → (l' ≡ l'') × (r ≡ q)
-  run_unique n l' l'' Bad Bad a b = (stopped_same l' l'' a b, refl)
-  run_unique n l' l'' Bad (At m) a b = absurd ((stopped_absent a).none (take n l'') (drop m s) b.reads.fine b.reads.here)
-  run_unique n l' l'' (At k) Bad a b = absurd ((stopped_absent b).none (take n l') (drop k s) a.reads.fine a.reads.here)
-  run_unique n l' l'' (At k) (At m) a b = let e = stored_same n l' l'' k m a b in (e.0, ap At e.1)
+  pub run_unique : (n : ℕ) (l' l'' : List ℕ) (r q : Option ℕ) → RunOf form s from n l l' r → RunOf form s from n l l'' q → (l' ≡ l'') × (r ≡ q)
+  run_unique n l' l'' None None a b = (stopped_same l' l'' a b, refl)
+  run_unique n l' l'' None (Some m) a b = absurd ((stopped_absent a).none (take n l'') (drop m s) b.reads.fine b.reads.here)
+  run_unique n l' l'' (Some k) None a b = absurd ((stopped_absent b).none (take n l') (drop k s) a.reads.fine a.reads.here)
+  run_unique n l' l'' (Some k) (Some m) a b = let e = stored_same n l' l'' k m a b in (e.0, ap Some e.1)

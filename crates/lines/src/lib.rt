@@ -1,7 +1,7 @@
 // Numbers and lines as text, read and printed: one line with its key, and runs of lines whose keys stand one after the other in one byte string.
 #![tactic(auto)]
 
-ghost use Rattle.std.specs.Prelude.{◌≡◌, ◌+◌, ◌*◌, ◌≤◌, ◌<◌, eqb, length, drop, get_or};
+ghost use Rattle.std.specs.Prelude.{◌≡◌, ◌+◌, ◌*◌, ◌≤◌, ◌<◌, eqb, leb, nat_eq, length, drop, get_or, position};
 ghost use Rattle.laws.specs.Written.{Written};
 ghost use Rattle.lines.specs.Numbers.{dec};
 ghost use Rattle.lines.specs.Lines.{dec_end, hex_end, dec_line, hex_line, Small, Word, line_of, ok_of, lines};
@@ -14,9 +14,9 @@ ghost use Rattle.lines.specs.Status.{refusal_text};
 
 // The number of a line, and where the next line starts.
 #[derive(Clone, Copy)]
-pub enum Num {
-    Bad,
-    Got { value: u64, next: usize },
+pub struct Num {
+    pub value: u64,
+    pub next: usize,
 }
 
 // Whether the bytes from `at` on begin with the key.
@@ -24,17 +24,7 @@ pub fn has(s: &[u8], at: usize, key: &[u8]) -> bool
     requires { at ≤ length s.now }
     ensures { result ≡ starts key.now (drop at s.now) }
 {
-    let mut i = 0;
-    while i < key.len() {
-        if s.len() - at <= i {
-            return false;
-        }
-        if s[at + i] != key[i] {
-            return false;
-        }
-        i += 1;
-    }
-    true
+    s[at..].starts_with(key)
 }
 
 // Whether an LF stands at i: past the end there is none.
@@ -47,185 +37,155 @@ fn ends(s: &[u8], i: usize) -> bool
     false
 }
 
-fn wide(b: u8) -> u64
-    ensures { result ≡ b }
-{
-    b as u64
-}
-
 // The rest of a decimal whose first digit is d, and LF.
-fn dec_more(s: &[u8], from: usize, d: u64) -> Num
+fn dec_more(s: &[u8], from: usize, d: u64) -> Option<Num>
     requires { (from < length s.now) × (d < 10) × (get_or s.now from 0 ≡ 48 + d) }
     ensures { Line dec_end Small s.now from result }
 {
     let mut n = d;
-    let mut i = from + 1;
-    while i < s.len() {
+    for i in from + 1..s.len() {
         let b = s[i];
-        if b == 10 {
-            return Num::Got {
+        if b == b'\n' {
+            return Some(Num {
                 value: n,
                 next: i + 1,
-            };
+            });
         }
-        if b < 48 {
-            return Num::Bad;
-        }
-        if 57 < b {
-            return Num::Bad;
+        if !b.is_ascii_digit() {
+            return None;
         }
         if n == 0 {
-            return Num::Bad;
+            return None;
         }
         if 100_000_000 <= n {
-            return Num::Bad;
+            return None;
         }
-        n = n * 10 + wide(b - 48);
-        i += 1;
+        n = n * 10 + u64::from(b - b'0');
     }
-    Num::Bad
+    None
 }
 
 // A decimal of at most nine digits with no needless zero, and LF.
-fn dec_at(s: &[u8], from: usize) -> Num
+fn dec_at(s: &[u8], from: usize) -> Option<Num>
     requires { from ≤ length s.now }
     ensures { Line dec_end Small s.now from result }
 {
-    if s.len() <= from {
-        return Num::Bad;
+    let b = *s.get(from)?;
+    if !b.is_ascii_digit() {
+        return None;
     }
-    let b = s[from];
-    if b < 48 {
-        return Num::Bad;
-    }
-    if 57 < b {
-        return Num::Bad;
-    }
-    dec_more(s, from, wide(b - 48))
+    dec_more(s, from, u64::from(b - b'0'))
 }
 
-// The value of a lower-case hex digit, 16 for any other byte.
-fn hex_value(b: u8) -> u64
+// The value of a lower-case hex digit; no other byte has one.
+fn hex_value(b: u8) -> Option<u64>
     ensures { result ≡ hex_val b }
 {
-    if b < 48 {
-        return 16;
+    match b {
+        b'0'..=b'9' => Some(u64::from(b - b'0')),
+        b'a'..=b'f' => Some(u64::from(b - b'a') + 10),
+        _ => None,
     }
-    if b < 58 {
-        return wide(b - 48);
-    }
-    if b < 97 {
-        return 16;
-    }
-    if b < 103 {
-        return wide(b - 87);
-    }
-    16
 }
 
 // Sixteen hex digits and LF.
-fn hex_at(s: &[u8], from: usize) -> Num
+fn hex_at(s: &[u8], from: usize) -> Option<Num>
     requires { from ≤ length s.now }
     ensures { Line hex_end Word s.now from result }
 {
     if s.len() - from < 16 {
-        return Num::Bad;
+        return None;
     }
     let mut n: u64 = 0;
-    let mut k = 0;
-    while k < 16 {
-        let d = hex_value(s[from + k]);
-        if d == 16 {
-            return Num::Bad;
-        }
+    for b in &s[from..from + 16] {
+        let d = hex_value(*b)?;
         n = n * 16 + d;
-        k += 1;
     }
     if ends(s, from + 16) {
-        return Num::Got {
+        return Some(Num {
             value: n,
             next: from + 17,
-        };
+        });
     }
-    Num::Bad
+    None
 }
 
 // A line with a decimal.
-pub fn dec_line(s: &[u8], at: usize, key: &[u8]) -> Num
+pub fn dec_line(s: &[u8], at: usize, key: &[u8]) -> Option<Num>
     requires { at ≤ length s.now }
     ensures { Line (dec_line key.now) Small s.now at result }
 {
     if has(s, at, key) {
         return dec_at(s, at + key.len());
     }
-    Num::Bad
+    None
 }
 
 // A line with the bits of a float.
-pub fn hex_line(s: &[u8], at: usize, key: &[u8]) -> Num
+pub fn hex_line(s: &[u8], at: usize, key: &[u8]) -> Option<Num>
     requires { at ≤ length s.now }
     ensures { Line (hex_line key.now) Word s.now at result }
 {
     if has(s, at, key) {
         return hex_at(s, at + key.len());
     }
-    Num::Bad
+    None
 }
 
 // ---- a run of lines
+
+// Where the first `=` stands.
+fn first_equals(keys: &[u8]) -> Option<usize>
+    ensures { result ≡ position (λ b. nat_eq b 61) keys.now }
+{
+    keys.iter().position(|b| *b == b'=')
+}
 
 // Where the key ends that starts at p: past its `=`.
 fn key_end(keys: &[u8], p: usize) -> usize
     requires { p ≤ length keys.now }
     ensures { result ≡ p + length (first_key (drop p keys.now)) }
 {
-    let mut i = p;
-    while i < keys.len() {
-        if keys[i] == 61 {
-            return i + 1;
-        }
-        i += 1;
+    match first_equals(&keys[p..]) {
+        Some(i) => p + i + 1,
+        None => keys.len(),
     }
-    i
 }
 
-// A line of either kind.
-fn line(s: &[u8], at: usize, hex: bool, key: &[u8]) -> Num
+// Line k of a run whose first decs lines are in decimal, the others by their bits.
+fn line(s: &[u8], at: usize, key: &[u8], k: usize, decs: usize) -> Option<Num>
     requires { at ≤ length s.now }
-    ensures { Line (line_of (field_of hex key.now)) (ok_of (field_of hex key.now)) s.now at result }
+    ensures { Line (line_of (field_of (leb decs k) key.now)) (ok_of (field_of (leb decs k) key.now)) s.now at result }
 {
-    if hex {
-        return hex_line(s, at, key);
+    if k < decs {
+        return dec_line(s, at, key);
     }
-    dec_line(s, at, key)
+    hex_line(s, at, key)
 }
 
-// Where a run ends.
-#[derive(Clone, Copy)]
-pub enum Place {
-    Bad,
-    At(usize),
-}
-
-// The first n lines of the keys, the first decs of them in decimal, the others by their bits: the numbers are stored in the first n places.
-pub fn read_run(s: &[u8], from: usize, decs: usize, keys: &[u8], n: usize, out: &mut [u64]) -> Place
+// The first n lines of the keys, the first decs of them in decimal, the others by their bits: the numbers are stored in the first n places. Answers where the
+// run ends.
+pub fn read_run(
+    s: &[u8],
+    from: usize,
+    decs: usize,
+    keys: &[u8],
+    n: usize,
+    out: &mut [u64],
+) -> Option<usize>
     requires { (from ≤ length s.now) × (n ≤ length out.old) }
     ensures { RunOf (form_of decs n keys.now) s.now from n out.old out.new result }
 {
     let mut at = from;
     let mut p = 0usize;
-    let mut k = 0usize;
-    while k < n {
+    for k in 0..n {
         let q = key_end(keys, p);
-        let Num::Got { value, next } = line(s, at, decs <= k, &keys[p..q]) else {
-            return Place::Bad;
-        };
+        let Num { value, next } = line(s, at, &keys[p..q], k, decs)?;
         out[k] = value;
         at = next;
         p = q;
-        k += 1;
     }
-    Place::At(at)
+    Some(at)
 }
 
 // ---- printing
@@ -249,12 +209,9 @@ pub fn put_text(out: &mut [u8], at: usize, text: &[u8]) -> usize
     requires { at + length text.now ≤ length out.old }
     ensures { Written out.old at text.now out.new result }
 {
-    let mut k = 0usize;
-    while k < text.len() {
-        out[at + k] = text[k];
-        k += 1;
-    }
-    at + k
+    let end = at + text.len();
+    out[at..end].copy_from_slice(text);
+    end
 }
 
 // A line: key, n in decimal, LF, appended.
@@ -274,12 +231,10 @@ pub fn put_run(out: &mut [u8], at: usize, keys: &[u8], vals: &[u64]) -> usize
 {
     let mut next = at;
     let mut p = 0usize;
-    let mut k = 0usize;
-    while k < vals.len() {
+    for v in vals {
         let q = key_end(keys, p);
-        next = put_line(out, next, &keys[p..q], vals[k]);
+        next = put_line(out, next, &keys[p..q], *v);
         p = q;
-        k += 1;
     }
     next
 }

@@ -1,15 +1,16 @@
 -- Laws of bytes: a number and its bytes, both ways, once over how many; and bytes read at a place. Assumes nothing.
-use mathlib.Core.Path.{◌≡◌, refl, ap, ap₂, ◌∙◌}
-use mathlib.Core.List.{List, [], ◌∷◌, ◌++◌}
-use Prim.Native.Nat.{ℕ, zero, suc, ◌+◌, ◌*◌, ◌/◌, ◌%◌, ◌^◌, ◌≤◌, ◌<◌}
+use mathlib.Core.Path.{◌≡◌, refl, sym, ap, ap₂, ◌∙◌}
+use mathlib.Core.List.{List, [], ◌∷◌, ◌++◌, append_assoc}
+use Prim.Native.Nat.{ℕ, zero, suc, ◌+◌, ◌-◌, ◌*◌, ◌/◌, ◌%◌, ◌^◌, ◌≤◌, ◌<◌}
 use native.Mathlib.Nat.{div-div-eq-div-mul, mul_assoc}
 use native.Mathlib.Omega.{arith}
-use lib.ListN.{length, get_or, set, take, drop, length-drop}
-use lib.Seq.{drop-cons, take-add, drop-drop, length-take-le}
+use lib.ListN.{length, get_or, take, drop, length-drop}
+use lib.Seq.{sets, sets-eq, take_all, take-suc, take-append_seam, length-take-le}
+use borrow.Rule.Slice.PartMut.{put_mid, Post-is}
+use Rattle.std.specs.Int.{byte_at, byte_worth, bytes_low_first, sum_through}
 use Rattle.laws.specs.Lists.{All}
 use Rattle.laws.proofs.Lists.{all-take-more, all-drop-more}
 use Rattle.laws.specs.Written.{Written}
-use Rattle.laws.proofs.Written.{written-more}
 use Rattle.little_endian.specs.Bytes.{bytes_of, value_of, number_at, Bytes}
 
 pub bytes_length : (k n : ℕ) → length (bytes_of k n) ≡ k
@@ -64,34 +65,6 @@ value-less (b ∷ bs) a =
 
 -- ---- bytes at a place
 
--- the first byte, and the rest
-pub number_more : (s : List ℕ) (p k q : ℕ) → p < length s → q ≡ suc p → number_at (suc k) s p ≡ get_or s p 0 + 256 * number_at k s q
-unfolding number_at value_of
-number_more s p k q h e = rw (drop-cons s p 0 h, e)
-
-pub number-none : (s : List ℕ) (p : ℕ) → number_at 0 s p ≡ 0
-unfolding number_at value_of
-number-none s p = refl
-
-pub number-four : (s : List ℕ) (p : ℕ) → p + 4 ≤ length s → number_at 4 s p ≡ get_or s p 0 + 256 * (get_or s (p + 1) 0 + 256 * (get_or s (p + 2) 0 + 256 * get_or s (p + 3) 0))
-number-four s p h =
-    omega (
-      arith,
-      number_more s p 3 (p + 1) (omega arith) (omega arith),
-      number_more s (p + 1) 2 (p + 2) (omega arith) (omega arith),
-      number_more s (p + 2) 1 (p + 3) (omega arith) (omega arith),
-      number_more s (p + 3) 0 (p + 4) (omega arith) (omega arith),
-      number-none s (p + 4),
-    )
-
--- eight bytes are four and four
-pub number_eight : (s : List ℕ) (p : ℕ) → p + 8 ≤ length s → number_at 8 s p ≡ number_at 4 s p + 4294967296 * number_at 4 s (p + 4)
-unfolding number_at
-number_eight s p h =
-    let e : take 8 (drop p s) ≡ take 4 (drop p s) ++ take 4 (drop (p + 4) s) = take-add 4 4 (drop p s) ∙ rw drop-drop in
-    let l : length (take 4 (drop p s)) ≡ 4 = length-take-le 4 (drop p s) (rw length-drop (omega arith)) in
-    ap value_of e ∙ value-more (take 4 (drop p s)) (take 4 (drop (p + 4) s)) ∙ rw l
-
 -- what stands there is the bytes of that number
 pub bytes_there : (k : ℕ) (s : List ℕ) (p : ℕ) → Bytes s → p + k ≤ length s → bytes_of k (number_at k s p) ≡ take k (drop p s)
 unfolding number_at
@@ -112,16 +85,56 @@ pub number-there : (k : ℕ) (s : List ℕ) (p n : ℕ) → n < 256 ^ k → take
 unfolding number_at
 number-there k s p n h e = ap value_of e ∙ value_bytes k n h
 
--- ---- bytes stored one by one
+-- ---- the library's words for the same: `to_le_bytes`, `from_le_bytes` and a part of a slice
 
-pub put_four : (l : List ℕ) (at w a b c d : ℕ) → a ≡ w % 256 → b ≡ w / 256 % 256 → c ≡ w / 256 / 256 % 256 → d ≡ w / 256 / 256 / 256 % 256
-    → Written l at (bytes_of 4 w) (set (set (set (set l at a) (at + 1) b) (at + 2) c) (at + 3) d) (at + 4)
+low_first : (i k n : ℕ) → bytes_low_first i k n ≡ bytes_of k (n / 256 ^ i)
 unfolding bytes_of
-put_four l at w a b c d p q r s =
-    let x : at + 1 ≡ suc at = omega arith in
-    let y : at + 2 ≡ suc (suc at) = omega arith in
-    let z : at + 3 ≡ suc (suc (suc at)) = omega arith in
-    record { buf = rw (x, y, z, p, q, r, s); next = refl }
+low_first i zero n = refl
+low_first i (suc k) n = ap₂ ◌∷◌ (lowest i) (low_first (suc i) k n ∙ ap (bytes_of k) next)
+  where
+    lowest : (i : ℕ) → byte_at i n ≡ n / 256 ^ i % 256
+    lowest zero = omega arith
+    lowest (suc i) = refl
 
-pub put_eight : (l l' l'' : List ℕ) (at w mid next : ℕ) → Written l at (bytes_of 4 w) l' mid → Written l' mid (bytes_of 4 (w / 4294967296)) l'' next → Written l at (bytes_of 8 w) l'' next
-put_eight l l' l'' at w mid next p q = rw (bytes_more 4 4 w) (written-more p q)
+    next : n / 256 ^ suc i ≡ n / 256 ^ i / 256
+    next =
+        let e : 256 ^ suc i ≡ 256 ^ i * 256 = omega arith in
+        ap (λ (m : ℕ). n / m) e ∙ sym (div-div-eq-div-mul n (256 ^ i) 256)
+
+low_bytes : (k n : ℕ) → bytes_low_first 0 k n ≡ bytes_of k n
+low_bytes k n = let e : n / 1 ≡ n = omega arith in low_first 0 k n ∙ ap (bytes_of k) e
+
+-- the first k of the eight bytes
+pub low_take : (k n : ℕ) → k ≤ 8 → take k (bytes_low_first 0 8 n) ≡ bytes_of k n
+low_take k n h =
+    let e : 8 ≡ k + (8 - k) = omega arith in
+    let l : length (bytes_of k n) ≡ k = bytes_length k n in
+    ap (take k) (low_bytes 8 n ∙ ap (λ (m : ℕ). bytes_of m n) e ∙ bytes_more k (8 - k) n)
+    ∙ ap (λ (m : ℕ). take m (bytes_of k n ++ bytes_of (8 - k) (n / 256 ^ k))) (sym l) ∙ take-append_seam (bytes_of k n) (bytes_of (8 - k) (n / 256 ^ k))
+
+low_sum : (l : List ℕ) (k : ℕ) → k < length l → sum_through (λ i. byte_worth i (get_or l i 0)) k ≡ value_of (take (suc k) l)
+unfolding value_of
+low_sum l zero h = rw (take-suc l 0 0 h) (omega arith)
+low_sum l (suc k) h =
+    let e : length (take (suc k) l) ≡ suc k = length-take-le (suc k) l (omega arith) in
+    let m = value-more (take (suc k) l) (get_or l (suc k) 0 ∷ []) in
+    rw (take-suc l (suc k) 0 h) (omega (arith, low_sum l k (omega arith), rw e at m))
+
+-- the number of the bytes that were copied
+pub number_copied : (k : ℕ) (s bs : List ℕ) (at : ℕ) → at + suc k ≤ length s → bs ≡ take (at + suc k - at) (drop at s) → sum_through (λ i. byte_worth i (get_or bs i 0)) k ≡ number_at (suc k) s at
+unfolding number_at
+number_copied k s bs at h e =
+    let c : at + suc k - at ≡ suc k = omega arith in
+    let b : bs ≡ take (suc k) (drop at s) = rw c at e in
+    let l : length (take (suc k) (drop at s)) ≡ suc k = length-take-le (suc k) (drop at s) (rw length-drop (omega arith)) in
+    let n : length bs ≡ suc k = ap length b ∙ l in
+    low_sum bs k (omega arith) ∙ ap value_of (take_all (suc k) bs (omega arith) ∙ b)
+
+-- bytes that were copied into a part
+pub put_bytes : (k : ℕ) (l bs : List ℕ) (at w : ℕ) → at + k ≤ length l → bs ≡ bytes_of k w → Written l at (bytes_of k w) (put_mid at (at + k - at) l bs) (at + k)
+put_bytes k l bs at w h e =
+    let n : length (bytes_of k w) ≡ k = bytes_length k w in
+    let behind = Post-is at (at + k) l (omega arith) in
+    let stored : sets l at (bytes_of k w) ≡ take at l ++ bytes_of k w ++ drop (at + length (bytes_of k w)) l = sets-eq (bytes_of k w) l at (omega arith) in
+    let parts = rw n at stored ∙ append_assoc (take at l) (bytes_of k w) (drop (at + k) l) in
+    record { buf = rw (behind, e) (sym parts); next = rw n }

@@ -1,4 +1,5 @@
 -- The cases of the march's cells are those of the samples; cells with all corners on one side give nothing. Assumes nothing.
+use Rattle.std.specs.Prelude.{None, Some}
 use mathlib.Core.Path.{◌≡◌, refl, sym, ap, ap₂, ◌∙◌}
 use mathlib.Core.Bool.{Bool, true, false, ◌&&◌, cond}
 use mathlib.Core.List.{List, [], ◌∷◌, map}
@@ -14,7 +15,6 @@ use Rattle.tables.specs.Edges.{du, dv, dw}
 use Rattle.tables.specs.Tets.{tet_corner}
 use Rattle.tables.specs.Cases.{mt_row}
 use Rattle.tables.proofs.Cases.{mt_none, mt_all}
-use Rattle.samples.specs.declared.Sample.TheVariants.{Missing, Value}
 use Rattle.samples.specs.Sides.{inside, finite}
 use Rattle.lattice.specs.declared.Sides.{Sides}
 use Rattle.lattice.specs.Sites.{SidesFit, sites, in_box, site_of, step}
@@ -36,7 +36,7 @@ module _ (n : Sides) (s : List Float) (h : Float) (edges : List ℕ) (f : SidesF
   value-says u v w = rw (value-box n s f l u v w) (go (in_box n u v w) (get_or s (site_of n u v w) nan))
     where
       go : (b : Bool) (x : Float)
-          → code (is_there (cond b (Value x) Missing)) (is_below (cond b (Value x) Missing) h) ≡ code (b && finite x) (inside x h)
+          → code (is_there (cond b (Some x) None)) (is_below (cond b (Some x) None) h) ≡ code (b && finite x) (inside x h)
       go true x = refl
       go false x = refl
 

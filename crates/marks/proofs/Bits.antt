@@ -1,4 +1,5 @@
 -- What the loops do to one bit: it is set where it was, or where an edge marks it. Assumes nothing.
+use Rattle.std.specs.Prelude.{Option, None, Some}
 use mathlib.Core.Path.{◌≡◌, refl, sym, ap, ap₂, ◌∙◌}
 use mathlib.Core.Bool.{Bool, true, false, not, ◌&&◌, ◌||◌, cond, or-false, false≢true}
 use mathlib.Core.Logic.{◌⊎◌, inl, inr, ⊎_elim}
@@ -16,14 +17,10 @@ use Rattle.laws.specs.Digits.{is_set}
 use Rattle.laws.proofs.Bools.{bool_ext, and-apart}
 use Rattle.laws.proofs.Ranges.{eq-or, lt-or, fold-or, any-one, any_some}
 use Rattle.laws.proofs.Digits.{set-or-pow}
-use Rattle.samples.specs.declared.Crossing.{Crossing}
-use Rattle.samples.specs.declared.Crossing.TheVariants.{SameSide, At}
 use Rattle.samples.specs.Sides.{half, crossing, near}
 use Rattle.tables.specs.Edges.{reverse}
 use Rattle.tables.proofs.Edges.{reverse-low, reverse_high}
 use Rattle.lattice.specs.declared.Sides.{Sides}
-use Rattle.lattice.specs.declared.OtherEnd.{OtherEnd}
-use Rattle.lattice.specs.declared.OtherEnd.TheVariants as end
 use Rattle.lattice.specs.Sites.{SidesFit, sites}
 use Rattle.lattice.specs.Across.{across_of}
 use Rattle.lattice.proofs.OtherEnds.{across-joined, across_back}
@@ -48,32 +45,32 @@ set_bit_lem m at b x e h =
 
 -- ---- which edge sets which bit
 
-unfoldable pub hit_by : ℕ → ℕ → ℕ → Crossing → ℕ → ℕ → Bool
-hit_by s t l SameSide x e = false
-hit_by s t l (At f) x e = cond (lt f half) (eqb s x && eqb l e) (eqb t x && eqb (l + 7) e)
+unfoldable pub hit_by : ℕ → ℕ → ℕ → Option Float → ℕ → ℕ → Bool
+hit_by s t l None x e = false
+hit_by s t l (Some f) x e = cond (lt f half) (eqb s x && eqb l e) (eqb t x && eqb (l + 7) e)
 
-unfoldable pub hit_to : List Float → Float → ℕ → ℕ → OtherEnd → ℕ → ℕ → Bool
-hit_to S h s l end.Missing x e = false
-hit_to S h s l (end.At t) x e = hit_by s t l (crossing (sample S s) (sample S t) h) x e
+unfoldable pub hit_to : List Float → Float → ℕ → ℕ → Option ℕ → ℕ → ℕ → Bool
+hit_to S h s l None x e = false
+hit_to S h s l (Some t) x e = hit_by s t l (crossing (sample S s) (sample S t) h) x e
 
 unfoldable pub hits : Sides → List Float → Float → ℕ → ℕ → ℕ → ℕ → Bool
 hits n S h s l x e = hit_to S h s l (across_of n s l) x e
 
-crossing-bit : (s t l : ℕ) (c : Crossing) (m : List ℕ) (x e : ℕ) → s < length m → t < length m
+crossing-bit : (s t l : ℕ) (c : Option Float) (m : List ℕ) (x e : ℕ) → s < length m → t < length m
     → bit_of (mark_crossing s t l c m) x e ≡ bit_of m x e || hit_by s t l c x e
 unfolding mark_crossing hit_by
-crossing-bit s t l SameSide m x e hs ht = sym (or-false (bit_of m x e))
-crossing-bit s t l (At f) m x e hs ht = go (lt f half)
+crossing-bit s t l None m x e hs ht = sym (or-false (bit_of m x e))
+crossing-bit s t l (Some f) m x e hs ht = go (lt f half)
   where
     go : (b : Bool) → bit_of (cond b (set_bit m s l) (set_bit m t (l + 7))) x e ≡ bit_of m x e || cond b (eqb s x && eqb l e) (eqb t x && eqb (l + 7) e)
     go true = set_bit_lem m s l x e hs
     go false = set_bit_lem m t (l + 7) x e ht
 
-to-bit : (S : List Float) (h : Float) (s l : ℕ) (o : OtherEnd) (m : List ℕ) (x e : ℕ) → s < length m → ((t : ℕ) → o ≡ end.At t → t < length m)
+to-bit : (S : List Float) (h : Float) (s l : ℕ) (o : Option ℕ) (m : List ℕ) (x e : ℕ) → s < length m → ((t : ℕ) → o ≡ Some t → t < length m)
     → bit_of (mark_to S h s l o m) x e ≡ bit_of m x e || hit_to S h s l o x e
 unfolding mark_to hit_to
-to-bit S h s l end.Missing m x e hs ht = sym (or-false (bit_of m x e))
-to-bit S h s l (end.At t) m x e hs ht = crossing-bit s t l (crossing (sample S s) (sample S t) h) m x e hs (ht t refl)
+to-bit S h s l None m x e hs ht = sym (or-false (bit_of m x e))
+to-bit S h s l (Some t) m x e hs ht = crossing-bit s t l (crossing (sample S s) (sample S t) h) m x e hs (ht t refl)
 
 module _ (n : Sides) (S : List Float) (h : Float) (f : SidesFit n) where
   label_bit : (s l : ℕ) (m : List ℕ) (x e : ℕ) → s < sites n → sites n ≤ length m
@@ -99,48 +96,48 @@ module _ (n : Sides) (S : List Float) (h : Float) (f : SidesFit n) where
 -- ---- the one edge that a bit is about
 
 -- an edge that sets the bit: it is the site's own and near, or it comes from below and is not
-pub record Hit (S : List Float) (h : Float) (s l : ℕ) (o : OtherEnd) (x e : ℕ) : Type 0 where
+pub record Hit (S : List Float) (h : Float) (s l : ℕ) (o : Option ℕ) (x e : ℕ) : Type 0 where
   pub other : ℕ
-  pub across : o ≡ end.At other
+  pub across : o ≡ Some other
   pub how : ((near (crossing (sample S s) (sample S other) h) ≡ true) × (s ≡ x) × (l ≡ e))
       ⊎ ((beyond (crossing (sample S s) (sample S other) h) ≡ true) × (other ≡ x) × (l + 7 ≡ e))
 
-by_apart : (s t l : ℕ) (c : Crossing) (x e : ℕ) → hit_by s t l c x e ≡ true
+by_apart : (s t l : ℕ) (c : Option Float) (x e : ℕ) → hit_by s t l c x e ≡ true
     → ((near c ≡ true) × (s ≡ x) × (l ≡ e)) ⊎ ((beyond c ≡ true) × (t ≡ x) × (l + 7 ≡ e))
 unfolding hit_by
-by_apart s t l SameSide x e q = absurd (false≢true q)
-by_apart s t l (At f) x e q = go (lt f half) q
+by_apart s t l None x e q = absurd (false≢true q)
+by_apart s t l (Some f) x e q = go (lt f half) q
   where
     go : (b : Bool) → cond b (eqb s x && eqb l e) (eqb t x && eqb (l + 7) e) ≡ true
         → ((b ≡ true) × (s ≡ x) × (l ≡ e)) ⊎ ((not b ≡ true) × (t ≡ x) × (l + 7 ≡ e))
     go true q = let p = and-apart (eqb s x) (eqb l e) q in inl (refl, eqb-true s x p.0, eqb-true l e p.1)
     go false q = let p = and-apart (eqb t x) (eqb (l + 7) e) q in inr (refl, eqb-true t x p.0, eqb-true (l + 7) e p.1)
 
-hit_apart : (S : List Float) (h : Float) (s l : ℕ) (o : OtherEnd) (x e : ℕ) → hit_to S h s l o x e ≡ true → Hit S h s l o x e
+hit_apart : (S : List Float) (h : Float) (s l : ℕ) (o : Option ℕ) (x e : ℕ) → hit_to S h s l o x e ≡ true → Hit S h s l o x e
 unfolding hit_to
-hit_apart S h s l end.Missing x e q = absurd (false≢true q)
-hit_apart S h s l (end.At t) x e q = record { other = t; across = refl; how = by_apart s t l (crossing (sample S s) (sample S t) h) x e q }
+hit_apart S h s l None x e q = absurd (false≢true q)
+hit_apart S h s l (Some t) x e q = record { other = t; across = refl; how = by_apart s t l (crossing (sample S s) (sample S t) h) x e q }
 
-near-hits : (s t l : ℕ) (c : Crossing) → near c ≡ true → hit_by s t l c s l ≡ true
+near-hits : (s t l : ℕ) (c : Option Float) → near c ≡ true → hit_by s t l c s l ≡ true
 unfolding hit_by
-near-hits s t l SameSide q = absurd (false≢true q)
-near-hits s t l (At f) q = rw (q, eq-eqb s s refl, eq-eqb l l refl)
+near-hits s t l None q = absurd (false≢true q)
+near-hits s t l (Some f) q = rw (q, eq-eqb s s refl, eq-eqb l l refl)
 
-beyond-hits : (s t l : ℕ) (c : Crossing) → beyond c ≡ true → hit_by s t l c t (l + 7) ≡ true
+beyond-hits : (s t l : ℕ) (c : Option Float) → beyond c ≡ true → hit_by s t l c t (l + 7) ≡ true
 unfolding hit_by
-beyond-hits s t l SameSide q = absurd (false≢true q)
-beyond-hits s t l (At f) q = go (lt f half) q
+beyond-hits s t l None q = absurd (false≢true q)
+beyond-hits s t l (Some f) q = go (lt f half) q
   where
     go : (b : Bool) → not b ≡ true → cond b (eqb s t && eqb l (l + 7)) (eqb t t && eqb (l + 7) (l + 7)) ≡ true
     go true q = absurd (false≢true q)
     go false q = rw (eq-eqb t t refl, eq-eqb (l + 7) (l + 7) refl)
 
 module _ (n : Sides) (S : List Float) (h : Float) (f : SidesFit n) (x e : ℕ) (hx : x < sites n) (he : e < 14) where
-  low-marked : (t : ℕ) → e < 7 → across_of n x e ≡ end.At t → near (crossing (sample S x) (sample S t) h) ≡ true → marked n S h x e ≡ true
+  low-marked : (t : ℕ) → e < 7 → across_of n x e ≡ Some t → near (crossing (sample S x) (sample S t) h) ≡ true → marked n S h x e ≡ true
   unfolding marked marked_by
   low-marked t l a q = rw (a, lt-ltb e 7 l) q
 
-  high_marked : (t : ℕ) → 7 ≤ e → across_of n x e ≡ end.At t → beyond (crossing (sample S t) (sample S x) h) ≡ true → marked n S h x e ≡ true
+  high_marked : (t : ℕ) → 7 ≤ e → across_of n x e ≡ Some t → beyond (crossing (sample S t) (sample S x) h) ≡ true → marked n S h x e ≡ true
   unfolding marked marked_by
   high_marked t l a q = rw (a, le-ltb e 7 l) q
 
@@ -150,30 +147,30 @@ module _ (n : Sides) (S : List Float) (h : Float) (f : SidesFit n) (x e : ℕ) (
       let r = hit_apart S h s l (across_of n s l) x e q in
       ⊎_elim
       (λ p.
-      let a : across_of n x e ≡ end.At r.other = ap₂ (across_of n) (sym p.1) (sym p.2) ∙ r.across in
+      let a : across_of n x e ≡ Some r.other = ap₂ (across_of n) (sym p.1) (sym p.2) ∙ r.across in
       low-marked r.other (omega (arith, p.2)) a (ap (λ (y : ℕ). near (crossing (sample S y) (sample S r.other) h)) (sym p.1) ∙ p.0))
       (λ p.
-      let b : across_of n r.other (reverse l) ≡ end.At s = across_back n s l r.other f hs (omega arith) r.across in
-      let a : across_of n x e ≡ end.At s = ap₂ (across_of n) (sym p.1) (sym (reverse-low l hl ∙ p.2)) ∙ b in
+      let b : across_of n r.other (reverse l) ≡ Some s = across_back n s l r.other f hs (omega arith) r.across in
+      let a : across_of n x e ≡ Some s = ap₂ (across_of n) (sym p.1) (sym (reverse-low l hl ∙ p.2)) ∙ b in
       high_marked s (omega (arith, p.2)) a (ap (λ (y : ℕ). beyond (crossing (sample S s) (sample S y) h)) (sym p.1) ∙ p.0)) r.how
 
   -- the edges that mark site x along e
-  own-hits : (t : ℕ) → across_of n x e ≡ end.At t → near (crossing (sample S x) (sample S t) h) ≡ true → hits n S h x e x e ≡ true
+  own-hits : (t : ℕ) → across_of n x e ≡ Some t → near (crossing (sample S x) (sample S t) h) ≡ true → hits n S h x e x e ≡ true
   unfolding hits hit_to
-  own-hits t a q = ap (λ (o : OtherEnd). hit_to S h x e o x e) a ∙ near-hits x t e (crossing (sample S x) (sample S t) h) q
+  own-hits t a q = ap (λ (o : Option ℕ). hit_to S h x e o x e) a ∙ near-hits x t e (crossing (sample S x) (sample S t) h) q
 
-  back_hits : (t : ℕ) → 7 ≤ e → across_of n x e ≡ end.At t → beyond (crossing (sample S t) (sample S x) h) ≡ true → hits n S h t (e - 7) x e ≡ true
+  back_hits : (t : ℕ) → 7 ≤ e → across_of n x e ≡ Some t → beyond (crossing (sample S t) (sample S x) h) ≡ true → hits n S h t (e - 7) x e ≡ true
   unfolding hits hit_to
   back_hits t l a q =
-      let b : across_of n t (e - 7) ≡ end.At x = ap (across_of n t) (sym (reverse_high e l he)) ∙ across_back n x e t f hx he a in
+      let b : across_of n t (e - 7) ≡ Some x = ap (across_of n t) (sym (reverse_high e l he)) ∙ across_back n x e t f hx he a in
       let r : e - 7 + 7 ≡ e = omega arith in
-      ap (λ (o : OtherEnd). hit_to S h t (e - 7) o x e) b
+      ap (λ (o : Option ℕ). hit_to S h t (e - 7) o x e) b
       ∙ ap (hit_by t x (e - 7) (crossing (sample S t) (sample S x) h) x) (sym r) ∙ beyond-hits t x (e - 7) (crossing (sample S t) (sample S x) h) q
 
-  marked_from : (o : OtherEnd) → across_of n x e ≡ o → marked_by S h x e o ≡ true → any (sites n) (λ s. any 7 (λ l. hits n S h s l x e)) ≡ true
+  marked_from : (o : Option ℕ) → across_of n x e ≡ o → marked_by S h x e o ≡ true → any (sites n) (λ s. any 7 (λ l. hits n S h s l x e)) ≡ true
   unfolding marked_by
-  marked_from end.Missing a q = absurd (false≢true q)
-  marked_from (end.At t) a q =
+  marked_from None a q = absurd (false≢true q)
+  marked_from (Some t) a q =
       ⊎_elim
       (λ l.
       any_some (sites n) (λ s. any 7 (λ l. hits n S h s l x e)) x hx

@@ -1,4 +1,5 @@
 -- A layer's work on the parts from its first site on is the box's work on its sites. Assumes nothing.
+use Rattle.std.specs.Prelude.{Option, None, Some}
 use mathlib.Core.Path.{◌≡◌, refl, sym, ap, ap₂, ◌∙◌}
 use mathlib.Core.Bool.{Bool, true, false, ◌&&◌, cond}
 use mathlib.Core.List.{List, ◌++◌}
@@ -15,15 +16,11 @@ use Rattle.laws.specs.Ranges.{fold}
 use Rattle.laws.proofs.Bools.{bool_ext}
 use Rattle.laws.proofs.Ranges.{fold_same, fold-rows, fold_behind, fold_keeps}
 use Rattle.laws.proofs.Tails.{set_behind}
-use Rattle.samples.specs.declared.Crossing.{Crossing}
-use Rattle.samples.specs.declared.Crossing.TheVariants.{SameSide, At}
 use Rattle.samples.specs.Sides.{half, crossing}
 use Rattle.tables.specs.Edges.{corner_of, du, dv, dw}
 use Rattle.tables.proofs.Edges.{steps_lt}
 use Rattle.lattice.specs.declared.Sides.{Sides}
 use Rattle.lattice.specs.declared.Uvw.{Uvw}
-use Rattle.lattice.specs.declared.OtherEnd.{OtherEnd}
-use Rattle.lattice.specs.declared.OtherEnd.TheVariants as end
 use Rattle.lattice.specs.Sites.{SidesFit, sites, in_box, site_of, uvw_of, step}
 use Rattle.lattice.specs.Across.{upward, across_of}
 use Rattle.lattice.proofs.Sites.{uvw_site, step-add}
@@ -34,11 +31,11 @@ use Rattle.marks.specs.Inner.Loops.{set_bit, mark_crossing, mark_to, mark_label,
 -- ---- the site across an edge that leads up, in the box and in the box from layer w on
 
 -- the same site by its number in the whole box
-unfoldable pub shifted : ℕ → OtherEnd → OtherEnd
-shifted a end.Missing = end.Missing
-shifted a (end.At t) = end.At (a + t)
+unfoldable pub shifted : ℕ → Option ℕ → Option ℕ
+shifted a None = None
+shifted a (Some t) = Some (a + t)
 
-shift_cond : (a : ℕ) (b : Bool) (x : ℕ) → shifted a (cond b (end.At x) end.Missing) ≡ cond b (end.At (a + x)) end.Missing
+shift_cond : (a : ℕ) (b : Bool) (x : ℕ) → shifted a (cond b (Some x) None) ≡ cond b (Some (a + x)) None
 unfolding shifted
 shift_cond a true x = refl
 shift_cond a false x = refl
@@ -117,20 +114,20 @@ module _ (front : List ℕ) (a : ℕ) (len : length front ≡ a) where
       let g : get_or (front ++ r) (a + t) 0 ≡ get_or r t 0 = ap (λ (x : ℕ). get_or (front ++ r) (x + t) 0) (sym len) ∙ get_or-append-add front r t 0 in
       ap (λ (x : ℕ). set (front ++ r) (a + t) (bit_or x (2 ^ b))) g ∙ set_behind front r a t (bit_or (get_or r t 0) (2 ^ b)) len
 
-  crossing_behind : (s t l : ℕ) (c : Crossing) (r : List ℕ) → mark_crossing (a + s) (a + t) l c (front ++ r) ≡ front ++ mark_crossing s t l c r
+  crossing_behind : (s t l : ℕ) (c : Option Float) (r : List ℕ) → mark_crossing (a + s) (a + t) l c (front ++ r) ≡ front ++ mark_crossing s t l c r
   unfolding mark_crossing
-  crossing_behind s t l SameSide r = refl
-  crossing_behind s t l (At f) r = go (lt f half)
+  crossing_behind s t l None r = refl
+  crossing_behind s t l (Some f) r = go (lt f half)
     where
       go : (b : Bool) → cond b (set_bit (front ++ r) (a + s) l) (set_bit (front ++ r) (a + t) (l + 7)) ≡ front ++ cond b (set_bit r s l) (set_bit r t (l + 7))
       go true = bit_behind r s l
       go false = bit_behind r t (l + 7)
 
-  to_behind : (S : List Float) (h : Float) (s l : ℕ) (e : OtherEnd) (r : List ℕ)
+  to_behind : (S : List Float) (h : Float) (s l : ℕ) (e : Option ℕ) (r : List ℕ)
       → mark_to S h (a + s) l (shifted a e) (front ++ r) ≡ front ++ mark_to (drop a S) h s l e r
   unfolding mark_to shifted
-  to_behind S h s l end.Missing r = refl
-  to_behind S h s l (end.At t) r =
+  to_behind S h s l None r = refl
+  to_behind S h s l (Some t) r =
       ap₂ (λ (x y : Float). mark_crossing (a + s) (a + t) l (crossing x y h) (front ++ r)) (sym (get_or-drop a S s nan)) (sym (get_or-drop a S t nan))
       ∙ crossing_behind s t l (crossing (sample (drop a S) s) (sample (drop a S) t) h) r
 
@@ -141,7 +138,7 @@ module _ (n : Sides) (S : List Float) (h : Float) (f : SidesFit n) where
       → mark_label n S h (below n w + i) l (front ++ x) ≡ front ++ mark_label (from_layer n w) (drop (below n w) S) h i l x
   unfolding mark_label
   label_behind w hw front len i hi l x hl =
-      ap (λ (e : OtherEnd). mark_to S h (below n w + i) l e (front ++ x)) (across_shift n w f hw i hi l hl)
+      ap (λ (e : Option ℕ). mark_to S h (below n w + i) l e (front ++ x)) (across_shift n w f hw i hi l hl)
       ∙ to_behind front (below n w) len S h i l (across_of (from_layer n w) i l) x
 
   site_behind : (w : ℕ) → w < n.nw → (front : List ℕ) → length front ≡ below n w → (i : ℕ) → i < n.nu * n.nv → (r : List ℕ)
@@ -161,19 +158,19 @@ module _ (n : Sides) (S : List Float) (h : Float) (f : SidesFit n) where
 
   -- ---- the lists keep their lengths
 
-  length-crossing : (s t l : ℕ) (c : Crossing) (m : List ℕ) → length (mark_crossing s t l c m) ≡ length m
+  length-crossing : (s t l : ℕ) (c : Option Float) (m : List ℕ) → length (mark_crossing s t l c m) ≡ length m
   unfolding mark_crossing set_bit
-  length-crossing s t l SameSide m = refl
-  length-crossing s t l (At f) m = go (lt f half)
+  length-crossing s t l None m = refl
+  length-crossing s t l (Some f) m = go (lt f half)
     where
       go : (b : Bool) → length (cond b (set m s (bit_or (get_or m s 0) (2 ^ l))) (set m t (bit_or (get_or m t 0) (2 ^ (l + 7))))) ≡ length m
       go true = length-set m s (bit_or (get_or m s 0) (2 ^ l))
       go false = length-set m t (bit_or (get_or m t 0) (2 ^ (l + 7)))
 
-  length_to : (s l : ℕ) (e : OtherEnd) (m : List ℕ) → length (mark_to S h s l e m) ≡ length m
+  length_to : (s l : ℕ) (e : Option ℕ) (m : List ℕ) → length (mark_to S h s l e m) ≡ length m
   unfolding mark_to
-  length_to s l end.Missing m = refl
-  length_to s l (end.At t) m = length-crossing s t l (crossing (sample S s) (sample S t) h) m
+  length_to s l None m = refl
+  length_to s l (Some t) m = length-crossing s t l (crossing (sample S s) (sample S t) h) m
 
   pub length_label : (s l : ℕ) (m : List ℕ) → length (mark_label n S h s l m) ≡ length m
   unfolding mark_label

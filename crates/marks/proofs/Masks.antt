@@ -1,4 +1,5 @@
 -- The masks of the box, entry by entry and as a list: exactly those of the definition, and all that lies past the sites as it was. Assumes nothing.
+use Rattle.std.specs.Prelude.{Option, None, Some}
 use mathlib.Core.Path.{◌≡◌, refl, sym, ap, ◌∙◌}
 use mathlib.Core.Bool.{Bool, true, false, ◌||◌, cond}
 use mathlib.Core.Logic.{⊎_elim}
@@ -15,12 +16,8 @@ use Rattle.laws.specs.Ranges.{any, each}
 use Rattle.laws.specs.Digits.{is_set, mask}
 use Rattle.laws.proofs.Ranges.{eq-or, lt-or, fold_inv, each-one-length, each-one-at}
 use Rattle.laws.proofs.Digits.{digit-is, digit-zero, digit_unset, digit_ext, mask-digit, mask_lt}
-use Rattle.samples.specs.declared.Crossing.{Crossing}
-use Rattle.samples.specs.declared.Crossing.TheVariants.{SameSide, At}
 use Rattle.samples.specs.Sides.{half, crossing}
 use Rattle.lattice.specs.declared.Sides.{Sides}
-use Rattle.lattice.specs.declared.OtherEnd.{OtherEnd}
-use Rattle.lattice.specs.declared.OtherEnd.TheVariants as end
 use Rattle.lattice.specs.Sites.{SidesFit, sites}
 use Rattle.lattice.specs.Across.{across_of}
 use Rattle.lattice.proofs.OtherEnds.{across-joined}
@@ -50,20 +47,20 @@ module _ (n : Sides) (m₀ : List ℕ) (room : sites n ≤ length m₀) where
             (λ p. omega (arith, get_or-set_other m at x v 0 p, k.short x hx)) (eq-or x at);
       }
 
-  crossing_kept : (s t l : ℕ) (c : Crossing) (m : List ℕ) → s < sites n → t < sites n → l < 7 → Kept n m₀ m → Kept n m₀ (mark_crossing s t l c m)
+  crossing_kept : (s t l : ℕ) (c : Option Float) (m : List ℕ) → s < sites n → t < sites n → l < 7 → Kept n m₀ m → Kept n m₀ (mark_crossing s t l c m)
   unfolding mark_crossing
-  crossing_kept s t l SameSide m hs ht hl k = k
-  crossing_kept s t l (At f) m hs ht hl k = go (lt f half)
+  crossing_kept s t l None m hs ht hl k = k
+  crossing_kept s t l (Some f) m hs ht hl k = go (lt f half)
     where
       go : (b : Bool) → Kept n m₀ (cond b (set_bit m s l) (set_bit m t (l + 7)))
       go true = bit_kept m s l hs (omega arith) k
       go false = bit_kept m t (l + 7) ht (omega arith) k
 
-  to_kept : (S : List Float) (h : Float) (s l : ℕ) (o : OtherEnd) (m : List ℕ) → s < sites n → ((t : ℕ) → o ≡ end.At t → t < sites n) → l < 7
+  to_kept : (S : List Float) (h : Float) (s l : ℕ) (o : Option ℕ) (m : List ℕ) → s < sites n → ((t : ℕ) → o ≡ Some t → t < sites n) → l < 7
       → Kept n m₀ m → Kept n m₀ (mark_to S h s l o m)
   unfolding mark_to
-  to_kept S h s l end.Missing m hs ht hl k = k
-  to_kept S h s l (end.At t) m hs ht hl k = crossing_kept s t l (crossing (sample S s) (sample S t) h) m hs (ht t refl) hl k
+  to_kept S h s l None m hs ht hl k = k
+  to_kept S h s l (Some t) m hs ht hl k = crossing_kept s t l (crossing (sample S s) (sample S t) h) m hs (ht t refl) hl k
 
   module _ (S : List Float) (h : Float) (f : SidesFit n) where
     label_kept : (s l : ℕ) (m : List ℕ) → s < sites n → l < 7 → Kept n m₀ m → Kept n m₀ (mark_label n S h s l m)

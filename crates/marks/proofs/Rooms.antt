@@ -1,4 +1,5 @@
 -- What the loops of the marks need of their lists, and keep. Assumes nothing.
+use Rattle.std.specs.Prelude.{Option, None, Some}
 use mathlib.Core.Path.{◌≡◌, refl, sym, ap, ap₂, ◌∙◌}
 use mathlib.Core.Bool.{Bool, true, false, beq, cond}
 use mathlib.Core.List.{List}
@@ -16,8 +17,6 @@ use Rattle.laws.proofs.Sums.{sum_rows, sum_same, sum-le}
 use Rattle.samples.specs.Sides.{inside, crossing, crosses}
 use Rattle.lattice.specs.declared.Sides.{Sides}
 use Rattle.lattice.specs.declared.Uvw.{Uvw}
-use Rattle.lattice.specs.declared.OtherEnd.{OtherEnd}
-use Rattle.lattice.specs.declared.OtherEnd.TheVariants as end
 use Rattle.lattice.specs.Sites.{SidesFit, sites, InBox, site_of}
 use Rattle.lattice.specs.Across.{across_of}
 use Rattle.lattice.proofs.Sites.{site-lt, sites-most}
@@ -38,39 +37,39 @@ pub record Ends (n : Sides) (S : List Float) (s l t : ℕ) : Type 0 where
   pub there : t < sites n
   pub here_in : s < length S
   pub there_in : t < length S
-  pub leads : across_of n s l ≡ end.At t
+  pub leads : across_of n s l ≡ Some t
 
-pub ends : (n : Sides) (S : List Float) (p : Uvw) (s l t : ℕ) (o : OtherEnd) → Sampled n S → InBox n p → s ≡ site_of n p.u p.v p.w
-    → o ≡ across_of n (site_of n p.u p.v p.w) l → o ≡ end.At t → Ends n S s l t
+pub ends : (n : Sides) (S : List Float) (p : Uvw) (s l t : ℕ) (o : Option ℕ) → Sampled n S → InBox n p → s ≡ site_of n p.u p.v p.w
+    → o ≡ across_of n (site_of n p.u p.v p.w) l → o ≡ Some t → Ends n S s l t
 ends n S p s l t o r b e a q =
     let h : s < sites n = omega (arith, e, site-lt n p b) in
-    let x : across_of n s l ≡ end.At t = ap (λ (y : ℕ). across_of n y l) e ∙ sym a ∙ q in
+    let x : across_of n s l ≡ Some t = ap (λ (y : ℕ). across_of n y l) e ∙ sym a ∙ q in
     let k = (across-joined n s l t r.fit h x).inside in
     record { here = h; there = k; here_in = omega (arith, r.samples); there_in = omega (arith, r.samples); leads = x }
 
 -- the two ways out of a label
-pub label_none : (n : Sides) (S : List Float) (h : Float) (s l : ℕ) (m : List ℕ) → across_of n s l ≡ end.Missing → m ≡ mark_label n S h s l m
+pub label_none : (n : Sides) (S : List Float) (h : Float) (s l : ℕ) (m : List ℕ) → across_of n s l ≡ None → m ≡ mark_label n S h s l m
 unfolding mark_label mark_to
-label_none n S h s l m a = sym (ap (λ (o : OtherEnd). mark_to S h s l o m) a)
+label_none n S h s l m a = sym (ap (λ (o : Option ℕ). mark_to S h s l o m) a)
 
-pub label_some : (n : Sides) (S : List Float) (h : Float) (s l t : ℕ) (m : List ℕ) → across_of n s l ≡ end.At t
+pub label_some : (n : Sides) (S : List Float) (h : Float) (s l t : ℕ) (m : List ℕ) → across_of n s l ≡ Some t
     → mark_crossing s t l (crossing (sample S s) (sample S t) h) m ≡ mark_label n S h s l m
 unfolding mark_label mark_to
-label_some n S h s l t m a = sym (ap (λ (o : OtherEnd). mark_to S h s l o m) a)
+label_some n S h s l t m a = sym (ap (λ (o : Option ℕ). mark_to S h s l o m) a)
 
-pub cross_none : (n : Sides) (S : List Float) (h : Float) (s l : ℕ) → across_of n s l ≡ end.Missing → 0 ≡ bit (is_crossed n S h s l)
+pub cross_none : (n : Sides) (S : List Float) (h : Float) (s l : ℕ) → across_of n s l ≡ None → 0 ≡ bit (is_crossed n S h s l)
 unfolding is_crossed crossed_by bit
-cross_none n S h s l a = sym (ap (λ (o : OtherEnd). bit (crossed_by S h s o)) a)
+cross_none n S h s l a = sym (ap (λ (o : Option ℕ). bit (crossed_by S h s o)) a)
 
 crosses_by : (x y h : Float) (b : Bool) → beq (inside x h) (inside y h) ≡ b → bit (crosses (crossing x y h)) ≡ cond b 0 1
 unfolding crossing bit
 crosses_by x y h true e = rw e
 crosses_by x y h false e = rw e
 
-pub cross_some : (n : Sides) (S : List Float) (h : Float) (s l t : ℕ) (b : Bool) → across_of n s l ≡ end.At t
+pub cross_some : (n : Sides) (S : List Float) (h : Float) (s l t : ℕ) (b : Bool) → across_of n s l ≡ Some t
     → beq (inside (sample S s) h) (inside (sample S t) h) ≡ b → cond b 0 1 ≡ bit (is_crossed n S h s l)
 unfolding is_crossed crossed_by
-cross_some n S h s l t b a e = sym (ap (λ (o : OtherEnd). bit (crossed_by S h s o)) a ∙ crosses_by (sample S s) (sample S t) h b e)
+cross_some n S h s l t b a e = sym (ap (λ (o : Option ℕ). bit (crossed_by S h s o)) a ∙ crosses_by (sample S s) (sample S t) h b e)
 
 -- ---- rows
 
@@ -146,11 +145,11 @@ begins n w len f h k =
 
 -- ---- the count by layers
 
-crossed_shift : (n : Sides) (w : ℕ) (S : List Float) (h : Float) (s : ℕ) (o : OtherEnd)
+crossed_shift : (n : Sides) (w : ℕ) (S : List Float) (h : Float) (s : ℕ) (o : Option ℕ)
     → crossed_by S h (below n w + s) (shifted (below n w) o) ≡ crossed_by (drop (below n w) S) h s o
 unfolding crossed_by shifted
-crossed_shift n w S h s end.Missing = refl
-crossed_shift n w S h s (end.At t) =
+crossed_shift n w S h s None = refl
+crossed_shift n w S h s (Some t) =
     ap₂ (λ (x y : Float). crosses (crossing x y h)) (sym (get_or-drop (below n w) S s nan)) (sym (get_or-drop (below n w) S t nan))
 
 label_count : (n : Sides) (S : List Float) (h : Float) (f : SidesFit n) (w : ℕ) (hw : w < n.nw) (i : ℕ) (hi : i < n.nu * n.nv) (l : ℕ) (hl : l < 7)

@@ -8,8 +8,7 @@ ghost use Rattle.laws.specs.Bools.{bit};
 ghost use Rattle.marks.specs.Marks.{masks_of, is_crossed, crossed_count};
 ghost use Rattle.marks.specs.Inner.Loops.{set_bit, mark_crossing, mark_label, mark_site, mark_row, mark_layer, mark_layers, zeroed, Room, Sampled, cross_site, cross_row, cross_layer};
 
-use lattice::{OtherEnd, Sides, Uvw};
-use samples::Crossing;
+use lattice::{Sides, Uvw};
 
 fn set_bit(masks: &mut [u16], at: usize, bit: usize)
     requires { (at < length masks.old) × (bit < 14) }
@@ -19,13 +18,13 @@ fn set_bit(masks: &mut [u16], at: usize, bit: usize)
 }
 
 // The owned edge from site s to site t. A NaN fraction marks the other end.
-fn mark_crossing(masks: &mut [u16], s: usize, t: usize, label: usize, c: Crossing)
+fn mark_crossing(masks: &mut [u16], s: usize, t: usize, label: usize, c: Option<f64>)
     requires { (s < length masks.old) × (t < length masks.old) × (label < 7) }
     ensures { masks.new ≡ mark_crossing s t label c masks.old }
 {
     match c {
-        Crossing::SameSide => {}
-        Crossing::At(f) => {
+        None => {}
+        Some(f) => {
             if f < 0.5 {
                 set_bit(masks, s, label);
             } else {
@@ -43,8 +42,8 @@ fn mark_label(n: Sides, samples: &[f64], masks: &mut [u16], p: Uvw, s: usize, la
 {
     let end = lattice::above(n, p, label);
     match end {
-        OtherEnd::Missing => {}
-        OtherEnd::At(t) => {
+        None => {}
+        Some(t) => {
             let c = samples::crossing_alpha(samples[s], samples[t], h);
             mark_crossing(masks, s, t, label, c);
         }
@@ -102,9 +101,7 @@ fn clear(masks: &mut [u16], k: usize)
     requires { k ≤ length masks.old }
     ensures { masks.new ≡ zeroed k masks.old }
 {
-    for i in 0..k {
-        masks[i] = 0;
-    }
+    masks[..k].fill(0);
 }
 
 // The masks of the box, whatever was in the lent list before. What lies past the sites stays.
@@ -125,8 +122,8 @@ fn crosses_at(n: Sides, samples: &[f64], p: Uvw, s: usize, label: usize, h: f64)
 {
     let end = lattice::above(n, p, label);
     match end {
-        OtherEnd::Missing => 0,
-        OtherEnd::At(t) => {
+        None => 0,
+        Some(t) => {
             if samples::is_inside(samples[s], h) == samples::is_inside(samples[t], h) {
                 0
             } else {

@@ -16,12 +16,5 @@ pub fn index(x: u32) -> usize
 pub fn named(triangles: &[u32], v: usize) -> bool
     ensures { Tells (All (λ x. x < v) triangles.now) result }
 {
-    let mut k = 0usize;
-    while k < triangles.len() {
-        if v <= index(triangles[k]) {
-            return false;
-        }
-        k += 1;
-    }
-    true
+    triangles.iter().all(|x| index(*x) < v)
 }

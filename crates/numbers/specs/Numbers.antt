@@ -1,5 +1,5 @@
 -- The numbers to check by (docs/SCOPE.md, S14.1): sides, crossings, marks and fractions, neighbours, the topology test, cases. One table, one statement, which antt computes. Assumes nothing.
-use Rattle.std.specs.Prelude.{◌≡◌, refl, Bool, true, false, List, [], ◌∷◌, map, ℕ, ◌+◌, ◌^◌, pos, negsuc, length, Float}
+use Rattle.std.specs.Prelude.{◌≡◌, refl, Bool, true, false, List, [], ◌∷◌, map, ℕ, ◌+◌, ◌^◌, pos, negsuc, length, Float, Option, None, Some}
 use Rattle.std.specs.Int.Bits.{bit_and}
 use Rattle.std.specs.Int.Count.{count_trailing_zeros}
 use Rattle.std.specs.Float.{nan, inf, fin, binary64}
@@ -11,10 +11,6 @@ use Rattle.laws.specs.Digits.{digit, is_set, mask}
 use Rattle.tables.specs.Edges.{are_neighbours, neighbour_mask, corners, corner_of, du, dv, dw}
 use Rattle.tables.specs.FlatHoles.{hole_of, flat_holes, flat_hole}
 use Rattle.tables.specs.Cases.{mt_row}
-use Rattle.samples.specs.declared.Sample.{Sample}
-use Rattle.samples.specs.declared.Sample.TheVariants.{Missing, Value}
-use Rattle.samples.specs.declared.Crossing.{Crossing}
-use Rattle.samples.specs.declared.Crossing.TheVariants.{SameSide, At}
 use Rattle.samples.specs.Sides.{base, half, inside, finite, when_finite, known, mark_fraction, hold, point_fraction, crossing, is_near}
 use Rattle.lattice.specs.declared.Sides.{Sides}
 use Rattle.lattice.specs.Sites.{sites, in_box, site_of, uvw_of, step}
@@ -48,18 +44,18 @@ pub data Ask : Type 0 where
   -- how many edges do the walks over the mask take?
   walking : ℕ → Ask
   -- the topology test of a mask, to be clustered or not, with the samples at the fourteen ends
-  near : ℕ → List Sample → Ask
-  near_at : Float → ℕ → List Sample → Ask
+  near : ℕ → List (Option Float) → Ask
+  near_at : Float → ℕ → List (Option Float) → Ask
   unclustered : ℕ → Ask
   -- a tetrahedron with these samples at its four corners
-  tetrahedron : Sample → Sample → Sample → Sample → Ask
-  tetrahedron_at : Float → Sample → Sample → Sample → Sample → Ask
+  tetrahedron : Option Float → Option Float → Option Float → Option Float → Ask
+  tetrahedron_at : Float → Option Float → Option Float → Option Float → Option Float → Ask
 
 pub data Answer : Type 0 where
   -- whether it is inside
   is_inside : Bool → Answer
   -- where the edge is crossed, and the masks of the two sites
-  is_crossed : Crossing → List ℕ → Answer
+  is_crossed : Option Float → List ℕ → Answer
   is_fraction : Float → Answer
   are_so : Bool → Answer
   -- as a mask
@@ -70,8 +66,8 @@ pub data Answer : Type 0 where
   -- the case and how many triangles it has
   has_triangles : ℕ → ℕ → Answer
 
-abbrev pub no_ends : List Sample
-no_ends = Missing ∷ Missing ∷ Missing ∷ Missing ∷ Missing ∷ Missing ∷ Missing ∷ Missing ∷ Missing ∷ Missing ∷ Missing ∷ Missing ∷ Missing ∷ Missing ∷ []
+abbrev pub no_ends : List (Option Float)
+no_ends = None ∷ None ∷ None ∷ None ∷ None ∷ None ∷ None ∷ None ∷ None ∷ None ∷ None ∷ None ∷ None ∷ None ∷ []
 
 abbrev pub pair : Sides
 pair = record { nu = 2; nv = 1; nw = 1 }
@@ -145,15 +141,15 @@ abbrev pub alone : List (List ℕ)
 alone = (0 ∷ []) ∷ (1 ∷ []) ∷ (2 ∷ []) ∷ (3 ∷ []) ∷ (4 ∷ []) ∷ (5 ∷ []) ∷ (6 ∷ []) ∷ (7 ∷ []) ∷ (8 ∷ []) ∷ (9 ∷ []) ∷ (10 ∷ []) ∷ (11 ∷ []) ∷ (12 ∷ []) ∷ (13 ∷ []) ∷ []
 
 -- s at ends 0 and 1, t at ends 4 and 13; the others are missing
-abbrev pub four_ends : Float → Float → List Sample
+abbrev pub four_ends : Float → Float → List (Option Float)
 four_ends s t =
-    Value s ∷ Value s ∷ Missing ∷ Missing ∷ Value t ∷ Missing ∷ Missing ∷ Missing ∷ Missing ∷ Missing ∷ Missing ∷ Missing ∷ Missing ∷ Value t ∷ []
+    Some s ∷ Some s ∷ None ∷ None ∷ Some t ∷ None ∷ None ∷ None ∷ None ∷ None ∷ None ∷ None ∷ None ∷ Some t ∷ []
 
-abbrev pub within : Sample
-within = Value (minus 1)
+abbrev pub within : Option Float
+within = Some (minus 1)
 
-abbrev pub outside : Sample
-outside = Value (plus 1)
+abbrev pub outside : Option Float
+outside = Some (plus 1)
 
 -- ---- the table
 
@@ -171,14 +167,14 @@ table =
     ∷ row (side hair) (is_inside true)
     ∷ row (side nan) (is_inside false)
     -- from 1 to −1 the fraction is exactly 0.5, and the other end is marked; from 1 to −3 it is 0.25, and the owner is
-    ∷ row (edge (plus 1) (minus 1)) (is_crossed (At half) by_other)
-    ∷ row (edge (plus 1) (minus 3)) (is_crossed (At (of_bits binary64 0x3FD0000000000000)) by_owner)
+    ∷ row (edge (plus 1) (minus 1)) (is_crossed (Some half) by_other)
+    ∷ row (edge (plus 1) (minus 3)) (is_crossed (Some (of_bits binary64 0x3FD0000000000000)) by_owner)
     -- on one side there is no mark; a fraction that is NaN marks the other end
-    ∷ row (edge (plus 1) (plus 3)) (is_crossed SameSide nobody)
-    ∷ row (edge (inf false) (inf true)) (is_crossed (At nan) by_other)
+    ∷ row (edge (plus 1) (plus 3)) (is_crossed None nobody)
+    ∷ row (edge (inf false) (inf true)) (is_crossed (Some nan) by_other)
     -- from −1.0e-9 to a hair below it, both negative, the fraction is about −4.8e15, and the owner is marked; the other way round it is as far above 1
-    ∷ row (edge (neg base) hair) (is_crossed (At (minus 4835703278458517)) by_owner)
-    ∷ row (edge hair (neg base)) (is_crossed (At (fin false 2417851639229259 (pos 1))) by_other)
+    ∷ row (edge (neg base) hair) (is_crossed (Some (minus 4835703278458517)) by_owner)
+    ∷ row (edge hair (neg base)) (is_crossed (Some (fin false 2417851639229259 (pos 1))) by_other)
     -- the point stands at the end where the fraction is held
     ∷ row (point (neg base) hair) (is_fraction (plus 0))
     ∷ row (point hair (neg base)) (is_fraction (plus 1))
@@ -205,14 +201,14 @@ table =
     ∷ row (side_at (minus 0) (least true)) (is_inside true)
     ∷ row (side_at (least false) (least true)) (is_inside false)
     -- with 1 the surface runs between −0.9 and −1.1. The fraction is where the values would cross 0, outside the edge, and the point is held at the end of −0.9
-    ∷ row (edge_at (plus 1) above below) (is_crossed (At (of_bits binary64 0xC011FFFFFFFFFFFE)) by_owner)
-    ∷ row (edge_at (plus 1) below above) (is_crossed (At (of_bits binary64 0x4015FFFFFFFFFFFE)) by_other)
+    ∷ row (edge_at (plus 1) above below) (is_crossed (Some (of_bits binary64 0xC011FFFFFFFFFFFE)) by_owner)
+    ∷ row (edge_at (plus 1) below above) (is_crossed (Some (of_bits binary64 0x4015FFFFFFFFFFFE)) by_other)
     ∷ row (point above below) (is_fraction (plus 0))
     ∷ row (point below above) (is_fraction (plus 1))
-    ∷ row (edge above below) (is_crossed SameSide nobody)
+    ∷ row (edge above below) (is_crossed None nobody)
     -- with 0 two ends of different sides may be as near as the least f64 and 0
-    ∷ row (edge_at (plus 0) (plus 0) (least true)) (is_crossed (At (plus 0)) by_owner)
-    ∷ row (edge_at (plus 0) (least false) (fin true 3 (negsuc 1073))) (is_crossed (At quarter) by_owner)
+    ∷ row (edge_at (plus 0) (plus 0) (least true)) (is_crossed (Some (plus 0)) by_owner)
+    ∷ row (edge_at (plus 0) (least false) (fin true 3 (negsuc 1073))) (is_crossed (Some quarter) by_owner)
     -- neighbours' deltas differ by 2 on the first axis, or by 1 on two; not by 2 on the second or the third, by 4 in all, or by nothing
     ∷ row (both 0 9) (are_so true)
     ∷ row (both 0 4) (are_so true)
@@ -256,14 +252,14 @@ table =
     ∷ row (unclustered 0x3FFF) (says DoNotCluster alone 0)
     -- corners −1, 1, 1, 1: case 1, one triangle; with a NaN, an infinity or a missing corner case 0
     ∷ row (tetrahedron within outside outside outside) (has_triangles 1 1)
-    ∷ row (tetrahedron within (Value nan) outside outside) (has_triangles 0 0)
-    ∷ row (tetrahedron within outside outside (Value (inf true))) (has_triangles 0 0)
-    ∷ row (tetrahedron within outside Missing outside) (has_triangles 0 0)
+    ∷ row (tetrahedron within (Some nan) outside outside) (has_triangles 0 0)
+    ∷ row (tetrahedron within outside outside (Some (inf true))) (has_triangles 0 0)
+    ∷ row (tetrahedron within outside None outside) (has_triangles 0 0)
     ∷ row (tetrahedron within within outside outside) (has_triangles 3 2)
     ∷ row (tetrahedron within within within within) (has_triangles 15 0)
     -- with the threshold 1 a corner of −1 is outside
     ∷ row (tetrahedron_at (plus 1) within outside outside outside) (has_triangles 0 0)
-    ∷ row (tetrahedron_at (plus 1) (Value (minus 3)) within outside outside) (has_triangles 1 1)
+    ∷ row (tetrahedron_at (plus 1) (Some (minus 3)) within outside outside) (has_triangles 1 1)
     ∷ []
 
 pub numbers : map (λ (r : Row). answer r.ask) table ≡ map (λ (r : Row). r.gets) table

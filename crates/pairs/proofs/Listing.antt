@@ -58,18 +58,12 @@ module _ (s : List ℕ) (whole : length s % 3 ≡ 0) where
       ∙ ap₂ (λ (j : ℕ) (p : Pair). side_of j p) (zero-add k) (directed-at s k (omega (arith, whole)))
 
   -- side k from its two corners, the lower one first
-  pub side-up : (k n : ℕ) → k < length s → n ≡ next k → get_or s k 0 < get_or s n 0 → record { low = get_or s k 0; high = get_or s n 0; side = k } ≡ get_or (sides s) k none
+  pub side_by_corners : (k n low high : ℕ) → k < length s → n ≡ next k → low ≡ min (get_or s k 0) (get_or s n 0) → high ≡ max (get_or s k 0) (get_or s n 0)
+      → record { low = low; high = high; side = k } ≡ get_or (sides s) k none
   unfolding side_of
-  side-up k n h e lt =
+  side_by_corners k n low high h e a b =
       let q : get_or s n 0 ≡ get_or s (next k) 0 = ap (λ (j : ℕ). get_or s j 0) e in
-      rec_same (record { low = get_or s k 0; high = get_or s n 0; side = k }) (side_of k (get_or s k 0, get_or s (next k) 0)) (omega arith) (omega arith) refl
-      ∙ sym (sides-at k h)
-
-  pub side-down : (k n : ℕ) → k < length s → n ≡ next k → get_or s n 0 ≤ get_or s k 0 → record { low = get_or s n 0; high = get_or s k 0; side = k } ≡ get_or (sides s) k none
-  unfolding side_of
-  side-down k n h e le =
-      let q : get_or s n 0 ≡ get_or s (next k) 0 = ap (λ (j : ℕ). get_or s j 0) e in
-      rec_same (record { low = get_or s n 0; high = get_or s k 0; side = k }) (side_of k (get_or s k 0, get_or s (next k) 0)) (omega arith) (omega arith) refl
+      rec_same (record { low = low; high = high; side = k }) (side_of k (get_or s k 0, get_or s (next k) 0)) (omega (arith, a, q)) (omega (arith, b, q)) refl
       ∙ sym (sides-at k h)
 
   -- the records of the first k sides in front of the room: one more, and all

@@ -3,6 +3,7 @@
 use mathlib.Core.Path.{◌≡◌, refl, sym, ap, ap₂, ◌∙◌}
 use mathlib.Core.Bool.{Bool, true, false, ◌&&◌, false≢true}
 use mathlib.Core.List.{List, [], ◌∷◌, ◌++◌, map, append_assoc, append-nil}
+use mir.Val.{bool_byte}
 use Prim.Native.Nat.{ℕ, zero, suc, ◌+◌, ◌-◌, ◌*◌, ◌≤◌, ◌<◌}
 use native.Mathlib.Omega.{arith}
 use lib.Dec.{eqb, ltb}
@@ -111,15 +112,10 @@ run-count l i r a f =
 
 -- ---- one flag
 
-pub flag_up : {f : Bool} {x y : Rec} → f ≡ true → x ≡ y → record { low = x.low; high = 1; side = x.side } ≡ flagged f y
+pub flag_set : {x y : Rec} (f : Bool) (b : ℕ) → b ≡ bool_byte f → x ≡ y → record { low = x.low; high = b; side = x.side } ≡ flagged f y
 unfolding flagged bit
-flag_up {f} {x} {y} h e =
-    ap {B = Rec} (λ r. record { low = r.low; high = 1; side = r.side }) e ∙ ap {B = Rec} (λ b. record { low = y.low; high = bit b; side = y.side }) (sym h)
-
-pub flag_down : {f : Bool} {x y : Rec} → f ≡ false → x ≡ y → record { low = x.low; high = 0; side = x.side } ≡ flagged f y
-unfolding flagged bit
-flag_down {f} {x} {y} h e =
-    ap {B = Rec} (λ r. record { low = r.low; high = 0; side = r.side }) e ∙ ap {B = Rec} (λ b. record { low = y.low; high = bit b; side = y.side }) (sym h)
+flag_set true b h e = cc
+flag_set false b h e = cc
 
 -- ---- run after run
 

@@ -5,30 +5,20 @@ ghost use Rattle.pairs.specs.Inner.Listing.{Room};
 
 use std::io;
 
-// A word as one sign: 0 to 9, then a to z.
-fn sign(w: u32) -> u8 {
-    if w < 10 {
-        return 48 + (w as u8);
-    }
-    if w < 36 {
-        return 87 + (w as u8);
-    }
-    63
-}
-
-fn put(rt: &impl Print, c: u8) -> io::Result<()> {
-    rt.write_all(&[c])
+// A word as one sign: 0 to 9, then a to z, then a question mark.
+fn sign(w: u32) -> char {
+    char::from_digit(w, 36).unwrap_or('?')
 }
 
 // The words, a space after each third.
 fn show(rt: &impl Print, room: &[u32]) -> io::Result<()> {
     for (i, w) in room.iter().enumerate() {
-        put(rt, sign(*w))?;
+        print!(rt; "{}", sign(*w))?;
         if i % 3 == 2 {
-            put(rt, b' ')?;
+            print!(rt; " ")?;
         }
     }
-    put(rt, b'\n')
+    println!(rt)
 }
 
 fn flags(rt: &impl Print, tris: &[u32], room: &mut [u32]) -> io::Result<()>

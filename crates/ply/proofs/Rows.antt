@@ -1,5 +1,5 @@
 -- The table of examples holds: computed, by the laws of the header, the body and the promises. Assumes nothing.
-use mathlib.Core.Path.{◌≡◌, refl, ap, ◌∙◌}
+use mathlib.Core.Path.{◌≡◌, refl}
 use mathlib.Core.Bool.{true, false}
 use mathlib.Core.List.{List, [], ◌∷◌, ◌++◌}
 use Prim.Native.Nat.{ℕ, ◌≤◌, ◌<◌}
@@ -11,40 +11,41 @@ use Rattle.little_endian.specs.Bytes.{bytes_of, value_of, number_at}
 use Rattle.lines.specs.Numbers.{digits, dec}
 use Rattle.lines.specs.Lines.{dec_end, dec_line, Small}
 use Rattle.lines.specs.Inner.Readers as text
-use Rattle.lines.specs.declared.Num.TheVariants.{Bad}
 use Rattle.lines.proofs.Keys.{no_key, after-key}
 use Rattle.lines.proofs.ReadDecimal.{bad-zero, bad_long, no_digit}
-use Rattle.ply.specs.declared.Counts.{Counts}
+use Rattle.std.specs.Prelude.{None, Err}
+use Rattle.ply_write.specs.declared.Refusal.TheVariants.{Unfit}
+use Rattle.ply.specs.declared.Refusal.TheVariants.{NoHeader, NoBody}
 use Rattle.ply_write.specs.Form.{opening, middle, closing, head_text, words_text, face_text, faces_text, ply_text, Fit, PlyFile, OfKind, Headed}
 use Rattle.ply.specs.Inner.Parts.{HeaderAt, Body}
-use Rattle.ply_write.specs.Answers.{unwritten, file_length, done, unfit, no_room}
-use Rattle.ply.specs.Answers.{refused, counted, no_header, no_body, unread, ReadOf}
+use Rattle.ply_write.specs.Answers.{file_length, done, unfit, no_room}
+use Rattle.ply.specs.Answers.{no_header, no_body, unread}
 use Rattle.ply.specs.Rows.{small_words, small_face, small, head_with, Answers, WritesIn, Readers, Writers}
 use Rattle.ply.proofs.Heads.{no_opening, no_middle, no_closing, header_headed}
 use Rattle.ply.proofs.Files.{kind_body}
 use Rattle.ply_write.proofs.Promises.{write_unique}
-use Rattle.ply.proofs.Promises.{sizes_unique, sizes-file, ReadBack, read_file, eleven_exactly, read_keeps}
+use Rattle.ply.proofs.Promises.{sizes_unique, sizes-file, read_file, eleven_exactly}
 
 -- ---- how a row is shown
 
-nine : (s : List ℕ) → (Headed s → ⊥) → Answers s (refused 9)
-nine s z r q = sizes_unique q (unread 9 (no_header z refl) refl)
+nine : (s : List ℕ) → (Headed s → ⊥) → Answers s (Err NoHeader)
+nine s z r q = sizes_unique q (unread NoHeader (no_header z refl) refl)
 
-ten : (s : List ℕ) (v f next : ℕ) → HeaderAt s v f next → (Body s v f next → ⊥) → Answers s (refused 10)
-ten s v f next h z r q = sizes_unique q (unread 10 (no_body (header_headed s v f next h) (λ k. z (kind_body s v f next h k)) refl) refl)
+ten : (s : List ℕ) (v f next : ℕ) → HeaderAt s v f next → (Body s v f next → ⊥) → Answers s (Err NoBody)
+ten s v f next h z r q = sizes_unique q (unread NoBody (no_body (header_headed s v f next h) (λ k. z (kind_body s v f next h k)) refl) refl)
 
 -- not the first lines, and a first number that is none
-front : (s : List ℕ) → text.starts opening s ≡ false → Answers s (refused 9)
+front : (s : List ℕ) → text.starts opening s ≡ false → Answers s (Err NoHeader)
 front s e = nine s (no_opening s (no_key dec_end Small s 0 opening e))
 
-number : (s : List ℕ) → text.starts opening s ≡ true → text.Absent dec_end Small s 51 → Answers s (refused 9)
-number s e a = nine s (no_opening s (after-key dec_end Small s 0 opening e Bad a))
+number : (s : List ℕ) → text.starts opening s ≡ true → text.Absent dec_end Small s 51 → Answers s (Err NoHeader)
+number s e a = nine s (no_opening s (after-key dec_end Small s 0 opening e None a))
 
 -- one vertex, and not the lines between, or one face, and not the last lines
-between : (s : List ℕ) → text.Reads (dec_line opening) Small s 0 1 53 → text.starts middle (drop 53 s) ≡ false → Answers s (refused 9)
+between : (s : List ℕ) → text.Reads (dec_line opening) Small s 0 1 53 → text.starts middle (drop 53 s) ≡ false → Answers s (Err NoHeader)
 between s p e = nine s (no_middle s 1 53 p (no_key dec_end Small s 53 middle e))
 
-last : (s : List ℕ) → text.Reads (dec_line opening) Small s 0 1 53 → text.Reads (dec_line middle) Small s 53 1 122 → text.starts closing (drop 122 s) ≡ false → Answers s (refused 9)
+last : (s : List ℕ) → text.Reads (dec_line opening) Small s 0 1 53 → text.Reads (dec_line middle) Small s 53 1 122 → text.starts closing (drop 122 s) ≡ false → Answers s (Err NoHeader)
 last s p q e = nine s (no_closing s 1 53 p 1 122 q e)
 
 -- ---- files
@@ -73,16 +74,16 @@ headed : (s : List ℕ) → s ≡ head_text 1 1 ++ drop 172 s → HeaderAt s 1 1
 unfolding head_text dec digits
 headed s e = record { small_v = omega arith; small_f = omega arith; here = e; past = refl }
 
-short_of : (s : List ℕ) (n : ℕ) → s ≡ head_text 1 1 ++ drop 172 s → length s ≡ n → (n ≡ 209 → ⊥) → Answers s (refused 10)
+short_of : (s : List ℕ) (n : ℕ) → s ≡ head_text 1 1 ++ drop 172 s → length s ≡ n → (n ≡ 209 → ⊥) → Answers s (Err NoBody)
 short_of s n e l z = ten s 1 1 172 (headed s e) (λ b. z (omega (arith, b.full, l)))
 
-bad_byte : (s : List ℕ) (n : ℕ) → s ≡ head_text 1 1 ++ drop 172 s → get_or s 196 0 ≡ n → (n ≡ 3 → ⊥) → Answers s (refused 10)
+bad_byte : (s : List ℕ) (n : ℕ) → s ≡ head_text 1 1 ++ drop 172 s → get_or s 196 0 ≡ n → (n ≡ 3 → ⊥) → Answers s (Err NoBody)
 bad_byte s n e l z = ten s 1 1 172 (headed s e) (λ b. z (omega (arith, (b.faces 0 (omega arith)).threes, l)))
 
-bad-first : (s : List ℕ) (n : ℕ) → s ≡ head_text 1 1 ++ drop 172 s → number_at 4 s 197 ≡ n → (n < 1 → ⊥) → Answers s (refused 10)
+bad-first : (s : List ℕ) (n : ℕ) → s ≡ head_text 1 1 ++ drop 172 s → number_at 4 s 197 ≡ n → (n < 1 → ⊥) → Answers s (Err NoBody)
 bad-first s n e l z = ten s 1 1 172 (headed s e) (λ b. z (omega (arith, (b.faces 0 (omega arith)).first, l)))
 
-bad-third : (s : List ℕ) (n : ℕ) → s ≡ head_text 1 1 ++ drop 172 s → number_at 4 s 205 ≡ n → (n < 1 → ⊥) → Answers s (refused 10)
+bad-third : (s : List ℕ) (n : ℕ) → s ≡ head_text 1 1 ++ drop 172 s → number_at 4 s 205 ≡ n → (n < 1 → ⊥) → Answers s (Err NoBody)
 bad-third s n e l z = ten s 1 1 172 (headed s e) (λ b. z (omega (arith, (b.faces 0 (omega arith)).third, l)))
 
 one_vertex : (s : List ℕ) → drop 0 s ≡ dec_line opening 1 ++ drop 53 s → 53 ≤ length s → text.Reads (dec_line opening) Small s 0 1 53
@@ -125,20 +126,14 @@ readers = record {
   index_v = bad-third _ 1 refl refl (λ e. omega (arith, e));
   top_bit = bad-first _ 2147483648 refl refl (λ e. omega (arith, e));
   all_ones = bad-first _ 4294967295 refl refl (λ e. omega (arith, e));
-  full = λ l m l' m' r a b q. read-row (read_file small_kind (record { words = omega (arith, a); triangles = omega (arith, b) }) q);
-  few_words = λ l m l' m' r a b q. eleven_row q ((eleven_exactly small_kind q).1 (λ o. omega (arith, a, o.words)));
-  few_indices = λ l m l' m' r a b q. eleven_row q ((eleven_exactly small_kind q).1 (λ o. omega (arith, b, o.triangles)));
+  full = λ l m l' m' r a b q. (read_file small_kind (record { words = omega (arith, a); triangles = omega (arith, b) }) q).answer;
+  few_words = λ l m l' m' r a b q. (eleven_exactly small_kind q).1 (λ o. omega (arith, a, o.words));
+  few_indices = λ l m l' m' r a b q. (eleven_exactly small_kind q).1 (λ o. omega (arith, b, o.triangles));
 }
-  where
-    read-row : {l m l' m' : List ℕ} {r : Counts} → ReadBack small_words small_face l m l' m' r → r ≡ counted 1 1
-    read-row b = λ i. record { status = b.status i; vertices = b.vertices i; faces = b.faces i }
-
-    eleven_row : {l m l' m' : List ℕ} {r : Counts} → ReadOf small l m l' m' r → r.status ≡ 11 → r ≡ refused 11
-    eleven_row q e = (read_keeps q (λ z. omega (arith, e, z))).2 ∙ ap refused e
 
 -- ---- lists
 
-unfit-row : (ws ts : List ℕ) (n : ℕ) → (Fit ws ts → ⊥) → WritesIn ws ts n (unwritten 10)
+unfit-row : (ws ts : List ℕ) (n : ℕ) → (Fit ws ts → ⊥) → WritesIn ws ts n (Err Unfit)
 unfit-row ws ts n z l l' r h q = (write_unique q (unfit z refl refl)).1
 
 -- THE WRITERS' ROWS

@@ -4,59 +4,63 @@
 ghost use Rattle.std.specs.Prelude.{◌≡◌, ◌+◌, ◌*◌, ◌≤◌, ◌<◌, length};
 ghost use Rattle.laws.specs.Bools.{Tells};
 ghost use Rattle.laws.specs.Written.{Written};
-ghost use Rattle.ply.specs.Answers.{SizesOf, ReadOf, refused};
+ghost use Rattle.ply.specs.Answers.{number_of, SizesOf, ReadOf};
 ghost use Rattle.ply.specs.Inner.Parts.{HeadOf, words_in, face_at, faces_in, FaceFit, FacesFit, LookOf, FindOf};
 
-use lines::Num;
+// Why a file is not read: it begins with no header of this kind, its body is not what the header says, or the lists are too short.
+#[derive(Clone, Copy, PartialEq, Eq, Debug)]
+pub enum Refusal {
+    NoHeader,
+    NoBody,
+    NoRoom,
+}
+
+impl Refusal {
+    // The number that C is told.
+    pub fn number(self) -> usize
+        ensures { result ≡ number_of self }
+    {
+        match self {
+            Refusal::NoHeader => 9,
+            Refusal::NoBody => 10,
+            Refusal::NoRoom => 11,
+        }
+    }
+}
 
 // The numbers of a header, and where the body starts.
 #[derive(Clone, Copy)]
-enum Head {
-    Bad,
-    Got {
-        vertices: u64,
-        faces: u64,
-        next: usize,
-    },
+struct Head {
+    vertices: u64,
+    faces: u64,
+    next: usize,
 }
 
-fn read_head(s: &[u8]) -> Head
+fn read_head(s: &[u8]) -> Option<Head>
     ensures { HeadOf s.now result }
 {
-    let Num::Got {
-        value: vertices,
-        next: a,
-    } = lines::dec_line(
+    let vertices = lines::dec_line(
         s,
         0,
         b"ply\nformat binary_little_endian 1.0\nelement vertex ",
-    )
-    else {
-        return Head::Bad;
-    };
-    let Num::Got {
-        value: faces,
-        next: b,
-    } = lines::dec_line(
+    )?;
+    let faces = lines::dec_line(
         s,
-        a,
+        vertices.next,
         b"property double x\nproperty double y\nproperty double z\nelement face ",
-    )
-    else {
-        return Head::Bad;
-    };
+    )?;
     if lines::has(
         s,
-        b,
+        faces.next,
         b"property list uchar int vertex_indices\nend_header\n",
     ) {
-        return Head::Got {
-            vertices,
-            faces,
-            next: b + 50,
-        };
+        return Some(Head {
+            vertices: vertices.value,
+            faces: faces.value,
+            next: faces.next + 50,
+        });
     }
-    Head::Bad
+    None
 }
 
 // Whether a face of three vertices below v stands at p.
@@ -64,19 +68,10 @@ fn face_fits(s: &[u8], p: usize, v: usize) -> bool
     requires { p + 13 ≤ length s.now }
     ensures { Tells (FaceFit s.now p v) result }
 {
-    if s[p] != 3 {
-        return false;
-    }
-    if v <= mesh::index(little_endian::get4(s, p + 1)) {
-        return false;
-    }
-    if v <= mesh::index(little_endian::get4(s, p + 5)) {
-        return false;
-    }
-    if v <= mesh::index(little_endian::get4(s, p + 9)) {
-        return false;
-    }
-    true
+    s[p] == 3
+        && mesh::index(little_endian::get4(s, p + 1)) < v
+        && mesh::index(little_endian::get4(s, p + 5)) < v
+        && mesh::index(little_endian::get4(s, p + 9)) < v
 }
 
 // Whether n such faces do.
@@ -84,91 +79,54 @@ fn faces_fit(s: &[u8], at: usize, n: usize, v: usize) -> bool
     requires { at + n * 13 ≤ length s.now }
     ensures { Tells (FacesFit s.now at n v) result }
 {
-    let mut k = 0usize;
-    while k < n {
-        if face_fits(s, at + k * 13, v) {
-            k += 1;
-        } else {
+    for k in 0..n {
+        if !face_fits(s, at + k * 13, v) {
             return false;
         }
     }
     true
 }
 
-// What a file is found to be before anything is stored: its counts and where its body starts, or the number of the refusal.
-#[derive(Clone, Copy)]
-enum Found {
-    Refused(usize),
-    Good {
-        vertices: usize,
-        faces: usize,
-        next: usize,
-    },
-}
-
-fn look(s: &[u8]) -> Found
-    ensures { LookOf s.now result }
-{
-    let Head::Got {
-        vertices,
-        faces,
-        next,
-    } = read_head(s)
-    else {
-        return Found::Refused(9);
-    };
-    let v = vertices as usize;
-    let f = faces as usize;
-    let words = v * 24;
-    if s.len() - next != words + f * 13 {
-        return Found::Refused(10);
-    }
-    if faces_fit(s, next + words, f, v) {
-        return Found::Good {
-            vertices: v,
-            faces: f,
-            next,
-        };
-    }
-    Found::Refused(10)
-}
-
-// What a reader answers: 0, the vertices and the faces, or a refusal, 9, 10 or 11, and zeros.
-#[derive(Clone, Copy)]
+// How many vertices and faces a file has.
+#[derive(Clone, Copy, PartialEq, Eq, Debug)]
 pub struct Counts {
-    pub status: usize,
     pub vertices: usize,
     pub faces: usize,
 }
 
-fn refuse(n: usize) -> Counts
-    ensures { result ≡ refused n }
-{
-    Counts {
-        status: n,
-        vertices: 0,
-        faces: 0,
-    }
+// What a file is found to be before anything is stored: its counts and where its body starts.
+#[derive(Clone, Copy)]
+struct Found {
+    counts: Counts,
+    next: usize,
 }
 
-// How many vertices and faces the file has, so that a reader knows how much room to lend; nothing is stored. Refused are a file
-// without a header of this kind (9), and one whose body is not what the header says (10).
-pub fn sizes(file: &[u8]) -> Counts
+fn look(s: &[u8]) -> Result<Found, Refusal>
+    ensures { LookOf s.now result }
+{
+    let Some(head) = read_head(s) else {
+        return Err(Refusal::NoHeader);
+    };
+    let vertices = head.vertices as usize;
+    let faces = head.faces as usize;
+    let words = vertices * 24;
+    if s.len() - head.next != words + faces * 13 {
+        return Err(Refusal::NoBody);
+    }
+    if !faces_fit(s, head.next + words, faces, vertices) {
+        return Err(Refusal::NoBody);
+    }
+    Ok(Found {
+        counts: Counts { vertices, faces },
+        next: head.next,
+    })
+}
+
+// How many vertices and faces the file has, so that a reader knows how much room to lend; nothing is stored.
+pub fn sizes(file: &[u8]) -> Result<Counts, Refusal>
     ensures { SizesOf file.now result }
 {
-    let found = look(file);
-    match found {
-        Found::Refused(n) => refuse(n),
-        Found::Good {
-            vertices,
-            faces,
-            next: _,
-        } => Counts {
-            status: 0,
-            vertices,
-            faces,
-        },
-    }
+    Ok(look(file)?.counts)
 }
 
 // n words from `at` on, put at the front.
@@ -176,12 +134,10 @@ fn get_words(s: &[u8], at: usize, n: usize, words: &mut [u64]) -> usize
     requires { (at + n * 8 ≤ length s.now) × (n ≤ length words.old) }
     ensures { Written words.old 0 (words_in s.now at n) words.new result }
 {
-    let mut k = 0usize;
-    while k < n {
+    for k in 0..n {
         words[k] = little_endian::get8(s, at + k * 8);
-        k += 1;
     }
-    k
+    n
 }
 
 // The indices of the face at p, appended.
@@ -201,70 +157,37 @@ fn get_faces(s: &[u8], at: usize, n: usize, triangles: &mut [u32]) -> usize
     ensures { Written triangles.old 0 (faces_in s.now at n) triangles.new result }
 {
     let mut next = 0usize;
-    let mut k = 0usize;
-    while k < n {
+    for k in 0..n {
         next = get_face(s, at + k * 13, triangles, next);
-        k += 1;
     }
     next
 }
 
 // What is found where there is room for so many words and indices.
-fn find(file: &[u8], words: usize, triangles: usize) -> Found
+fn find(file: &[u8], words: usize, triangles: usize) -> Result<Found, Refusal>
     ensures { FindOf file.now words triangles result }
 {
-    let found = look(file);
-    match found {
-        Found::Refused(n) => Found::Refused(n),
-        Found::Good {
-            vertices,
-            faces,
-            next,
-        } => {
-            if words < vertices * 3 {
-                return Found::Refused(11);
-            }
-            if triangles < faces * 3 {
-                return Found::Refused(11);
-            }
-            Found::Good {
-                vertices,
-                faces,
-                next,
-            }
-        }
+    let found = look(file)?;
+    let counts = found.counts;
+    if words < counts.vertices * 3 || triangles < counts.faces * 3 {
+        return Err(Refusal::NoRoom);
     }
-}
-
-// What was found, stored.
-fn store(file: &[u8], found: Found, words: &mut [u64], triangles: &mut [u32]) -> Counts
-    requires { FindOf file.now (length words.old) (length triangles.old) found }
-    ensures { ReadOf file.now words.old triangles.old words.new triangles.new result }
-{
-    match found {
-        Found::Refused(n) => refuse(n),
-        Found::Good {
-            vertices,
-            faces,
-            next,
-        } => {
-            get_words(file, next, vertices * 3, words);
-            get_faces(file, next + vertices * 24, faces, triangles);
-            Counts {
-                status: 0,
-                vertices,
-                faces,
-            }
-        }
-    }
+    Ok(found)
 }
 
 // The words and the indices of the file, put at the fronts of the two lists; what stands behind them stays as it was.
-// Refused are a file without a header of this kind (9), one whose body is not what the header says (10), and lists that are too
-// short (11): nothing is stored then.
-pub fn read(file: &[u8], words: &mut [u64], triangles: &mut [u32]) -> Counts
+// Nothing is stored where it is refused.
+pub fn read(file: &[u8], words: &mut [u64], triangles: &mut [u32]) -> Result<Counts, Refusal>
     ensures { ReadOf file.now words.old triangles.old words.new triangles.new result }
 {
-    let found = find(file, words.len(), triangles.len());
-    store(file, found, words, triangles)
+    let found = find(file, words.len(), triangles.len())?;
+    let counts = found.counts;
+    get_words(file, found.next, counts.vertices * 3, words);
+    get_faces(
+        file,
+        found.next + counts.vertices * 24,
+        counts.faces,
+        triangles,
+    );
+    Ok(counts)
 }

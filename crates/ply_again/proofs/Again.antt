@@ -5,20 +5,26 @@ use Prim.Native.Nat.{ℕ, ◌+◌, ◌-◌, ◌*◌, ◌≤◌, ◌<◌}
 use native.Mathlib.Nat.{le-min}
 use native.Mathlib.Omega.{arith}
 use lib.ListN.{length, take, drop, length-take, take-append-drop}
-use lib.Seq.{length-sets, take-append-add}
+use lib.Seq.{take-append-add}
 use Rattle.laws.specs.Written.{Written}
 use Rattle.laws.proofs.Written.{written-length, written_unique, within}
 use Rattle.lines.specs.Status.{refusal_text}
 use Rattle.lines.proofs.Printing.{refusal-length}
 use Rattle.lines.proofs.Decimals.{dec-short}
-use Rattle.ply_write.specs.declared.Wrote.{Wrote}
+use Rattle.std.specs.Prelude.{Result, Ok, Err, IsOk}
+use Rattle.std.specs.Result.{is_ok, is_err, result_eq}
+use Rattle.ply_write.specs.declared.Refusal.{Refusal as WriteRefusal}
 use Rattle.ply.specs.declared.Counts.{Counts}
+use Rattle.ply.specs.declared.Refusal.{Refusal}
+use Rattle.ply.specs.declared.Refusal.TheVariants.{NoHeader, NoBody, NoRoom}
 use Rattle.ply_write.specs.Form.{head_text, count_of, size_of, OfKind, Headed}
 use Rattle.ply_write.specs.Answers.{WriteOf}
 use Rattle.ply.specs.Answers.{SizesOf, ReadOf}
 use Rattle.ply_write.proofs.Writing.{head_length, file-size}
+use Rattle.ply_write.proofs.Promises.{WrittenBack}
 use Rattle.ply.proofs.Files.{kind_headed}
 use Rattle.ply.proofs.Promises.{good_exactly, nine_exactly, some_header, ReadBack, read_file, write-after-read}
+use mathlib.Core.Bool.{Bool, true, false}
 use Rattle.ply_again.specs.Again.{AgainText, same, no_header, no_body, too_long, AgainOf}
 
 -- what is printed stands within the bytes that were lent
@@ -31,41 +37,69 @@ text-short (too_long h k) = omega (arith, refusal-length 11)
 at_front : (s t l l' : List ℕ) (r : ℕ) → length l ≡ 131072 → AgainText 131072 s t → Written l 0 t l' r → AgainOf 131072 s l l' r
 at_front s t l l' r h a p = record { text = t; is = a; put = p; within = within r l' (omega (arith, text-short a, p.next, written-length p)) }
 
-module _ (s : List ℕ) (c : Counts) (q : SizesOf s c) where
-  pub again_nine : c.status ≡ 9 → (l l' : List ℕ) (r : ℕ) → length l ≡ 131072 → Written l 0 (refusal_text 9) l' r → AgainOf 131072 s l l' r
+-- ---- what the tests of an answer mean
+
+module _ (p : Counts → Counts → Bool) (q : Refusal → Refusal → Bool) where
+  pub is_nine : (r : Result Counts Refusal) → q NoBody NoHeader ≡ false → q NoRoom NoHeader ≡ false → true ≡ result_eq p q r (Err NoHeader) → r ≡ Err NoHeader
+  is_nine (Ok c) a b h = absurd (cc)
+  is_nine (Err NoHeader) a b h = refl
+  is_nine (Err NoBody) a b h = absurd (cc)
+  is_nine (Err NoRoom) a b h = absurd (cc)
+
+  pub not-nine : (r : Result Counts Refusal) → q NoHeader NoHeader ≡ true → false ≡ result_eq p q r (Err NoHeader) → r ≡ Err NoHeader → ⊥
+  not-nine (Ok c) a h e = cc
+  not-nine (Err NoHeader) a h e = cc
+  not-nine (Err NoBody) a h e = cc
+  not-nine (Err NoRoom) a h e = cc
+
+is_good : (r : Result Counts Refusal) → false ≡ is_err r → IsOk r
+is_good (Ok c) h = refl
+is_good (Err e) h = absurd (cc)
+
+pub not-good : (r : Result Counts Refusal) → true ≡ is_err r → IsOk r → ⊥
+not-good (Ok c) h k = cc
+not-good (Err e) h k = cc
+
+-- ---- the ways out
+
+module _ (s : List ℕ) (c : Result Counts Refusal) (q : SizesOf s c) where
+  pub again_nine : c ≡ Err NoHeader → (l l' : List ℕ) (r : ℕ) → length l ≡ 131072 → Written l 0 (refusal_text 9) l' r → AgainOf 131072 s l l' r
   again_nine z l l' r room p = at_front s _ l l' r room (no_header ((nine_exactly q).0 z)) p
 
-  module _ (n : c.status ≡ 9 → ⊥) where
+  module _ (n : c ≡ Err NoHeader → ⊥) where
     pub again_long : 131072 < length s → (l l' : List ℕ) (r : ℕ) → length l ≡ 131072 → Written l 0 (refusal_text 11) l' r → AgainOf 131072 s l l' r
     again_long h l l' r room p = at_front s _ l l' r room (too_long (some_header q n) h) p
 
-    pub again_ten : length s ≤ 131072 → (c.status ≡ 0 → ⊥) → (l l' : List ℕ) (r : ℕ) → length l ≡ 131072 → Written l 0 (refusal_text 10) l' r → AgainOf 131072 s l l' r
+    pub again_ten : length s ≤ 131072 → (IsOk c → ⊥) → (l l' : List ℕ) (r : ℕ) → length l ≡ 131072 → Written l 0 (refusal_text 10) l' r → AgainOf 131072 s l l' r
     again_ten h z l l' r room p = at_front s _ l l' r room (no_body (some_header q n) (λ k. z ((good_exactly q).1 k)) h) p
 
-  -- a file of the kind that is not too long has room in the two lists
-  module _ (z : c.status ≡ 0) (h : length s ≤ 131072) (us rs us' rs' : List ℕ) (hu : length us ≡ 16384) (hr : length rs ≡ 32768) (d : Counts) (p : ReadOf s us rs us' rs' d) where
-    kind : OfKind s
-    kind = (good_exactly q).0 z
+-- a file of the kind that is not too long has room in the two lists
+module _ (s : List ℕ) (a : Result Counts Refusal) (q : SizesOf s a) (z : false ≡ is_err a) (h : length s ≤ 131072) (us rs us' rs' : List ℕ) (hu : length us ≡ 16384) (hr : length rs ≡ 32768) (d : Result Counts Refusal) (p : ReadOf s us rs us' rs' d) where
+  kind : OfKind s
+  kind = (good_exactly q).0 (is_good a z)
 
-    long : length s ≡ size_of (count_of kind.words) (count_of kind.triangles)
-    long = ap length kind.file.is ∙ file-size kind.words kind.triangles kind.file.fit
+  long : length s ≡ size_of (count_of kind.words) (count_of kind.triangles)
+  long = ap length kind.file.is ∙ file-size kind.words kind.triangles kind.file.fit
 
-    back : ReadBack kind.words kind.triangles us rs us' rs' d
-    back = read_file kind (record { words = omega (arith, long, kind.file.fit.whole_words); triangles = omega (arith, long, kind.file.fit.whole_triangles) }) p
+  back : ReadBack kind.words kind.triangles us rs us' rs' d
+  back = read_file kind (record { words = omega (arith, long, kind.file.fit.whole_words); triangles = omega (arith, long, kind.file.fit.whole_triangles) }) p
 
-    pub counts-small : (d.vertices ≤ 5461) × (d.faces ≤ 10082)
-    counts-small = (omega (arith, back.vertices, long), omega (arith, back.faces, long))
+  pub is_read : IsOk d
+  is_read = ap is_ok back.answer
 
-    pub words-there : d.vertices * 3 ≤ length us'
-    words-there = omega (arith, counts-small.0, ap length back.words ∙ length-sets us 0 kind.words)
+  module _ (c : Counts) (e : d ≡ Ok c) where
+    module _ (l l' : List ℕ) (w : Result ℕ WriteRefusal) (room : length l ≡ 131072) (o : WriteOf (take (c.vertices * 3) us') (take (c.faces * 3) rs') l l' w) where
+      again : WrittenBack s l l' w
+      again = let b : ReadOf s us rs us' rs' (Ok c) = rw e at p in write-after-read b (omega arith) o
 
-    pub triangles_there : d.faces * 3 ≤ length rs'
-    triangles_there = omega (arith, counts-small.1, ap length back.triangles ∙ length-sets rs 0 kind.triangles)
+      pub is_written : IsOk w
+      is_written = ap is_ok again.answer
 
-    pub again-done : (l l' : List ℕ) (w : Wrote) → length l ≡ 131072 → WriteOf (take (d.vertices * 3) us') (take (d.faces * 3) rs') l l' w → AgainOf 131072 s l l' w.length
-    again-done l l' w room o =
-        let t = write-after-read p back.status (omega arith) o in
-        at_front s s l l' w.length room (same kind h) (record { buf = t.bytes; next = omega (arith, ap (λ (x : Wrote). x.length) t.answer) })
+      pub again-done : (r : ℕ) → w ≡ Ok r → AgainOf 131072 s l l' r
+      again-done r i =
+          let b = again.answer in
+          let x : r ≡ length s = cc in
+          at_front s s l l' r room (same kind h) (record { buf = again.bytes; next = omega (arith, x) })
 
 -- ---- ANY TWO CONFORMING ANSWERS ARE EQUAL
 

@@ -5,12 +5,11 @@
 // One byte more than is written again, so that a file that is too long is seen to be: `again_cut` says that its first bytes suffice.
 fn main(rt: HostRuntime) {
     let mut space = [0u8; 131073];
-    let taken = streams::read(&rt, b"usage: ply_again_main [FILE]\n", 1, &mut space);
-    if taken.ok {
-        let n = taken.length;
-        let mut out = [0u8; 131072];
-        let k = ply_again::again_text(&space[..n], &mut out);
-        streams::write(&rt, &out[..k]);
-        streams::finish(&rt, taken.from);
-    }
+    let Some(taken) = streams::read(&rt, b"usage: ply_again_main [FILE]\n", 1, &mut space) else {
+        return;
+    };
+    let mut out = [0u8; 131072];
+    let k = ply_again::again_text(&space[..taken.length], &mut out);
+    streams::write(&rt, &out[..k]);
+    streams::finish(&rt, taken.from);
 }

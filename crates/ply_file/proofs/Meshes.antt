@@ -1,5 +1,5 @@
 -- The mesh of a build always fits a PLY file: a writer refuses it for want of room alone. Assumes nothing.
-use mathlib.Core.Path.{◌≡◌, ap, ◌∙◌}
+use mathlib.Core.Path.{◌≡◌, ◌∙◌}
 use mathlib.Core.List.{List}
 use Prim.Native.Nat.{ℕ, ◌*◌, ◌/◌, ◌≤◌}
 use native.Mathlib.Omega.{arith}
@@ -12,7 +12,8 @@ use Rattle.lines.specs.Status.{refusal_text}
 use Rattle.stages.specs.Meshes.{mesh_of}
 use Rattle.build.specs.Answer.{Order, status, order_box, order_vertices, order_positions, order_triangles}
 use Rattle.build.proofs.Fronts.{vertices_most, triangles_most, positions_three, corners-below}
-use Rattle.ply_write.specs.declared.Wrote.{Wrote}
+use Rattle.std.specs.Prelude.{Result, Ok}
+use Rattle.ply_write.specs.declared.Refusal.{Refusal}
 use Rattle.ply_write.specs.Form.{ply_text, count_of, size_of, Fit, Fits}
 use Rattle.ply_write.specs.Answers.{bits_of, WriteOf, done, unfit, no_room}
 use Rattle.ply_write.proofs.Writing.{file-size, size-most}
@@ -28,7 +29,7 @@ module _ (o : Order) where
     unfolding ply_of
     text-done = rw (eq-eqb (status o) 0 z)
 
-    -- EVERY MESH THAT IS BUILT FITS A PLY FILE, so no writer answers 10 for it
+    -- EVERY MESH THAT IS BUILT FITS A PLY FILE, so no writer answers Unfit for it
     pub build_fits : Fits (length (order_positions o)) (order_triangles o)
     build_fits =
         let t : length (order_triangles o) ≡ 3 * length (mesh_of (order_box o) (order_vertices o)) = flat-length (mesh_of (order_box o) (order_vertices o)) in
@@ -61,8 +62,9 @@ module _ (o : Order) where
       pub done-short : length (ply_of o) ≤ 88316
       done-short = rw text-done text-short
 
-      -- it is written whole: NEVER 10, AND NEVER 11 WHERE THERE ARE 88,316 BYTES
-      pub mesh_written : (l l' : List ℕ) (r : Wrote) → 88316 ≤ length l → WriteOf (bits_of (order_positions o)) (order_triangles o) l l' r → Written l 0 (ply_of o) l' r.length
-      mesh_written l l' r k (done p i x e) = rw text-done (record { buf = x; next = omega (arith, ap (λ (a : Wrote). a.length) e) })
+      -- it is written whole: NEVER Unfit, AND NEVER NoRoom WHERE THERE ARE 88,316 BYTES
+      pub mesh_written : (l l' : List ℕ) (r : Result ℕ Refusal) → 88316 ≤ length l → WriteOf (bits_of (order_positions o)) (order_triangles o) l l' r
+          → (n : ℕ) × (r ≡ Ok n) × Written l 0 (ply_of o) l' n
+      mesh_written l l' r k (done p i x e) = (length (ply_text (bits_of (order_positions o)) (order_triangles o)), e, rw text-done (record { buf = x; next = omega arith }))
       mesh_written l l' r k (unfit n x e) = absurd (n bits_fit)
       mesh_written l l' r k (no_room p i x e) = absurd (omega (arith, i, text-short))

@@ -1,5 +1,5 @@
 -- The ways out of `ply_text`, over what `build_file` promises; what is written is determined by the input. Assumes nothing.
-use mathlib.Core.Path.{◌≡◌}
+use mathlib.Core.Path.{◌≡◌, ap}
 use mathlib.Core.List.{List}
 use Prim.Native.Nat.{ℕ, ◌*◌, ◌≤◌}
 use native.Mathlib.Omega.{arith}
@@ -12,7 +12,9 @@ use Rattle.build.specs.Answer.{order_box, order_vertices, Lists, lengths_of}
 use Rattle.file_build.specs.declared.Built.{Built}
 use Rattle.file_build.specs.Asked.{work_space, BuiltOf}
 use Rattle.file_build.proofs.Told.{told_unique, told-at_unique, told_at, Meant, meant, told-refused}
-use Rattle.ply_write.specs.declared.Wrote.{Wrote}
+use Rattle.std.specs.Prelude.{Result, Ok, IsOk}
+use Rattle.std.specs.Result.{is_ok}
+use Rattle.ply_write.specs.declared.Refusal.{Refusal}
 use Rattle.ply_write.specs.Answers.{bits_of, WriteOf}
 use Rattle.ply_file.specs.Text.{ply_of, Drawn, DrawnAt}
 use Rattle.ply_file.proofs.Meshes.{text-refused, done-short, mesh_written}
@@ -25,14 +27,24 @@ module _ (s : List ℕ) (l l' : Lists) (r : Built) (w : lengths_of l ≡ work_sp
     pub mesh : Meant ply_of s l' r.answer
     mesh = meant ply_of s l l' r w b z
 
-    pub drawn_done : (m m' : List ℕ) (k : Wrote) → length m ≡ 88316 → WriteOf (bits_of (take (r.answer.vertices * 3) l'.positions)) (take (r.answer.triangles * 3) l'.triangles) m m' k
-        → DrawnAt s m m' k.length
-    drawn_done m m' k h d =
-        let o = mesh.order in
-        let hv : length (order_vertices o) ≤ 2268 = omega (arith, mesh.vertices, mesh.few_vertices) in
-        let ht : length (mesh_of (order_box o) (order_vertices o)) ≤ 2592 = omega (arith, mesh.triangles, mesh.few_triangles) in
-        told_at mesh.told (mesh_written o mesh.granted hv ht m m' k (omega arith) (rw (mesh.is_positions, mesh.is_triangles) at d))
-        (omega (arith, done-short o mesh.granted hv ht))
+    module _ (m m' : List ℕ) (k : Result ℕ Refusal) (h : length m ≡ 88316) (d : WriteOf (bits_of (take (r.answer.vertices * 3) l'.positions)) (take (r.answer.triangles * 3) l'.triangles) m m' k) where
+      few_v : length (order_vertices mesh.order) ≤ 2268
+      few_v = omega (arith, mesh.vertices, mesh.few_vertices)
+
+      few_t : length (mesh_of (order_box mesh.order) (order_vertices mesh.order)) ≤ 2592
+      few_t = omega (arith, mesh.triangles, mesh.few_triangles)
+
+      whole : (n : ℕ) × (k ≡ Ok n) × Written m 0 (ply_of mesh.order) m' n
+      whole = mesh_written mesh.order mesh.granted few_v few_t m m' k (omega arith) (rw (mesh.is_positions, mesh.is_triangles) at d)
+
+      pub drawn_whole : IsOk k
+      drawn_whole = ap is_ok whole.1
+
+      pub drawn_done : (n : ℕ) → k ≡ Ok n → DrawnAt s m m' n
+      drawn_done n e =
+          let x = whole.1 in
+          let i : whole.0 ≡ n = cc in
+          told_at mesh.told (rw i at whole.2) (omega (arith, done-short mesh.order mesh.granted few_v few_t))
 
 -- ---- ANY TWO CONFORMING ANSWERS ARE EQUAL
 

@@ -30,6 +30,5 @@ pub fn ply_text(input: &[u8], out: &mut [u8; 88316]) -> usize
     }
     let v = answer.vertices * 3;
     let t = answer.triangles * 3;
-    let wrote = ply_write::write_mesh(&positions[..v], &triangles[..t], out);
-    wrote.length
+    ply_write::write_mesh(&positions[..v], &triangles[..t], out).unwrap()
 }

@@ -4,12 +4,11 @@
 
 fn main(rt: HostRuntime) {
     let mut space = [0u8; count_file::ENOUGH];
-    let taken = streams::read(&rt, b"usage: ply_main [FILE]\n", 1, &mut space);
-    if taken.ok {
-        let n = taken.length;
-        let mut out = [0u8; 88316];
-        let k = ply_file::ply_text(&space[..n], &mut out);
-        streams::write(&rt, &out[..k]);
-        streams::finish(&rt, taken.from);
-    }
+    let Some(taken) = streams::read(&rt, b"usage: ply_main [FILE]\n", 1, &mut space) else {
+        return;
+    };
+    let mut out = [0u8; 88316];
+    let k = ply_file::ply_text(&space[..taken.length], &mut out);
+    streams::write(&rt, &out[..k]);
+    streams::finish(&rt, taken.from);
 }

@@ -1,23 +1,27 @@
 -- Laws of writing a PLY file: a face, the header, how long each part is, and which lists fit. Assumes nothing.
 use mathlib.Core.Path.{◌≡◌, refl, sym, ap, ◌∙◌}
-use mathlib.Core.List.{List, ◌++◌}
-use Prim.Native.Nat.{ℕ, ◌+◌, ◌*◌, ◌/◌, ◌%◌, ◌^◌, ◌≤◌, ◌<◌}
+use mathlib.Core.List.{List, [], ◌∷◌, ◌++◌}
+use Prim.Native.Nat.{ℕ, zero, suc, max, ◌+◌, ◌*◌, ◌/◌, ◌%◌, ◌^◌, ◌≤◌, ◌<◌}
 use native.Mathlib.Omega.{arith}
-use lib.ListN.{length, get_or, set, length-append}
+use lib.ListN.{length, get_or, set, take, drop, length-append}
+use lib.Seq.{drop-drop}
+use Rattle.std.specs.Simd.{first_chunks}
 use borrow.Author.Tests.{lt-ltb, le-ltb}
 use Rattle.laws.specs.Written.{Written}
-use Rattle.laws.proofs.Blocks.{each-length}
-use Rattle.laws.proofs.Lists.{all-index}
+use Rattle.laws.proofs.Blocks.{each-length, three}
 use Rattle.laws.proofs.Written.{written_one, written-more, written-length}
 use Rattle.lines.specs.Numbers.{dec}
 use Rattle.lines.specs.Lines.{dec_line}
 use Rattle.lines.proofs.Lines.{dec_line-length}
-use Rattle.lines.proofs.Decimals.{dec-short}
+use Rattle.lines.proofs.Decimals.{dec-small, dec-short}
+use Rattle.lines.proofs.Printing.{longer}
 use Rattle.little_endian.specs.Bytes.{bytes_of}
 use Rattle.little_endian.proofs.Bytes.{bytes_length}
 use Rattle.ply_write.specs.Form.{opening, middle, closing, head_text, words_text, face_text, faces_text, ply_text, count_of, size_of, Fits, Fit, PlyFile}
-use Rattle.ply_write.specs.declared.Wrote.{Wrote}
-use Rattle.ply_write.specs.Answers.{unwritten, wrote, file_length, WriteOf, done, unfit, no_room}
+use Rattle.std.specs.Prelude.{Ok, Err}
+use Rattle.laws.specs.Lists.{All}
+use Rattle.ply_write.specs.declared.Refusal.{Refusal}
+use Rattle.ply_write.specs.Answers.{file_length, WriteOf, done, unfit, no_room}
 use Rattle.ply_write.specs.Inner.Begin.{Started, BeginOf, begun, misfit, short}
 
 -- ---- a face
@@ -30,6 +34,33 @@ pub put_face : (l l' l'' l''' : List ℕ) (at a b c x y next : ℕ) → Written 
     → Written l at (face_text a b c) l''' next
 unfolding face_text
 put_face l l' l'' l''' at a b c x y next p q r = written-more (written_one l at 3) (written-more p (written-more q r))
+
+-- ---- how many digits a number has
+
+pub digits_count : (k n : ℕ) → 10 ^ k ≤ n → n < 10 * 10 ^ k → n < 2 ^ 64 → length (dec n) ≡ k + 1
+digits_count zero n a b h = ap length (dec-small n (omega arith))
+digits_count (suc k) n a b h =
+    let p : 10 ^ suc k ≡ 10 * 10 ^ k = omega arith in
+    let one : 1 ≤ 10 ^ k = omega arith in
+    let i = digits_count k (n / 10) (omega arith) (omega arith) (omega arith) in
+    omega (arith, longer n (omega arith) h, i)
+
+-- 0 has as many as 1
+pub dec-least : (n : ℕ) → length (dec (max n 1)) ≡ length (dec n)
+dec-least zero = ap length (dec-small 1 (omega arith)) ∙ sym (ap length (dec-small 0 (omega arith)))
+dec-least (suc n) = let e : max (suc n) 1 ≡ suc n = omega arith in ap (λ (m : ℕ). length (dec m)) e
+
+-- ---- triangles as lists of three
+
+chunk-at : (d : List ℕ) (n k : ℕ) (xs : List ℕ) (i : ℕ) → i < k → get_or (first_chunks n k xs) i d ≡ take n (drop (i * n) xs)
+chunk-at d n zero xs i h = absurd (omega arith)
+chunk-at d n (suc k) xs zero h = let e : 0 * n ≡ 0 = omega arith in rw e
+chunk-at d n (suc k) xs (suc i) h =
+    let e : n + i * n ≡ suc i * n = omega arith in
+    chunk-at d n k (drop n xs) i (omega arith) ∙ ap (take n) (drop-drop (i * n) n xs ∙ ap (λ (m : ℕ). drop m xs) e)
+
+pub three_at : (d : List ℕ) (n : ℕ) (xs : List ℕ) (i : ℕ) → i < n → n ≡ length xs / 3 → get_or (first_chunks 3 n xs) i d ≡ get_or xs (i * 3) 0 ∷ get_or xs (i * 3 + 1) 0 ∷ get_or xs (i * 3 + 2) 0 ∷ []
+three_at d n xs i h e = chunk-at d 3 n xs i h ∙ three 0 xs (i * 3) (omega arith)
 
 -- ---- how long the parts are
 
@@ -55,30 +86,25 @@ file_length_lem ws ts h =
 
 -- ---- the writers' ways out
 
-pub begin-short : (n : ℕ) (ts l : List ℕ) (k : ℕ) → Fits n ts → k ≡ size_of (n / 3) (count_of ts) → length l < k → BeginOf n ts l l (unwritten 11)
-begin-short n ts l k fit e h = short fit (rw (← e) h) refl refl
+pub begin-done : (n : ℕ) (ts l l' : List ℕ) (k a : ℕ) → Fits n ts → k ≡ size_of (n / 3) (count_of ts) → k ≤ length l → Written l 0 (head_text (n / 3) (count_of ts)) l' a → BeginOf n ts l l' (Ok a)
+begin-done n ts l l' k a fit e h p = begun a (record { fit = fit; room = omega arith; head = p }) refl
 
-pub head_room : (n : ℕ) (ts l : List ℕ) (k : ℕ) → k ≡ size_of (n / 3) (count_of ts) → k ≤ length l → length (head_text (n / 3) (count_of ts)) ≤ length l
-head_room n ts l k e h = omega arith
-
-pub begin-done : (n : ℕ) (ts l l' : List ℕ) (k a : ℕ) → Fits n ts → k ≡ size_of (n / 3) (count_of ts) → k ≤ length l → Written l 0 (head_text (n / 3) (count_of ts)) l' a → BeginOf n ts l l' (wrote a)
-begin-done n ts l l' k a fit e h p = begun (record { fit = fit; room = omega arith; head = p }) refl
-
--- what has begun, and what was refused
-pub started : (n : ℕ) (ts l l' : List ℕ) (r : Wrote) → BeginOf n ts l l' r → r.status ≡ 0 → Started n ts l l' r.length
-started n ts l l' r (begun p e) z = p
-started n ts l l' r (misfit k x e) z = absurd (omega (arith, z, ap (λ (a : Wrote). a.status) e))
-started n ts l l' r (short k h x e) z = absurd (omega (arith, z, ap (λ (a : Wrote). a.status) e))
+-- what has begun
+pub started : (n : ℕ) (ts l l' : List ℕ) (a : ℕ) → BeginOf n ts l l' (Ok a) → Started n ts l l' a
+started n ts l l' a (begun b p e) = let q : b ≡ a = cc in rw (← q) p
+started n ts l l' a (misfit k x e) = absurd (cc)
+started n ts l l' a (short k h x e) = absurd (cc)
 
 pub file-size : (ws ts : List ℕ) → Fit ws ts → length (ply_text ws ts) ≡ size_of (count_of ws) (count_of ts)
 file-size ws ts fit = file_length_lem ws ts fit.whole_words
 
 -- n is how many coordinates ws has
 module _ (n : ℕ) (ws ts l l' : List ℕ) (m : length ws ≡ n) where
-  pub not-begun : (r : Wrote) → BeginOf n ts l l' r → (r.status ≡ 0 → ⊥) → WriteOf ws ts l l' r
-  not-begun r (begun p e) z = absurd (z e)
-  not-begun r (misfit k x e) z = unfit (rw m k) x e
-  not-begun r (short k h x e) z = let f : Fit ws ts = rw m k in no_room f (rw (file-size ws ts f, m) h) x e
+  -- what was refused
+  pub not-begun : (e : Refusal) → BeginOf n ts l l' (Err e) → WriteOf ws ts l l' (Err e)
+  not-begun e (begun a p y) = absurd (cc)
+  not-begun e (misfit k x y) = unfit (rw m k) x y
+  not-begun e (short k h x y) = let f : Fit ws ts = rw m k in no_room f (rw (file-size ws ts f, m) h) x y
 
   module _ (a : ℕ) (p : Started n ts l l' a) where
     pub words-room : a + n * 8 ≤ length l'
@@ -88,7 +114,7 @@ module _ (n : ℕ) (ws ts l l' : List ℕ) (m : length ws ≡ n) where
       pub faces-room : b + count_of ts * 13 ≤ length l''
       faces-room = omega (arith, p.room, p.head.next, written-length p.head, q.next, written-length q, words-length ws, p.fit.whole_words, m)
 
-      pub write_done : ((k : ℕ) → k < length ws → get_or ws k 0 < 2 ^ 64) → (l''' : List ℕ) (c : ℕ) → Written l'' b (faces_text ts) l''' c → WriteOf ws ts l l''' (wrote c)
+      pub write_done : All (λ w. w < 2 ^ 64) ws → (l''' : List ℕ) (c : ℕ) → Written l'' b (faces_text ts) l''' c → WriteOf ws ts l l''' (Ok c)
       unfolding ply_text
       write_done w l''' c r =
           let f : Fit ws ts = rw m p.fit in
@@ -96,7 +122,7 @@ module _ (n : ℕ) (ws ts l l' : List ℕ) (m : length ws ≡ n) where
           let all : Written l 0 (ply_text ws ts) l''' c = written-more h (written-more q r) in
           let e : c ≡ length (ply_text ws ts) = omega (arith, all.next) in
           let o : size_of (count_of ws) (count_of ts) ≤ length l = rw m p.room in
-          done (record { fit = f; words = all-index 0 (λ x. x < 2 ^ 64) ws w; is = refl }) (rw (file-size ws ts f) o) all.buf (rw e)
+          done (record { fit = f; words = w; is = refl }) (rw (file-size ws ts f) o) all.buf (rw e)
 
 -- ---- how long a file is
 

@@ -1,25 +1,51 @@
 // PLY files of our kind (docs/SCOPE.md, S11), written.
 #![tactic(auto)]
 
-ghost use Rattle.std.specs.Prelude.{◌≡◌, ◌+◌, ◌*◌, ◌/◌, ◌≤◌, ◌<◌, length};
+ghost use Rattle.std.specs.Prelude.{◌≡◌, ℕ, ◌+◌, ◌*◌, ◌/◌, ◌^◌, ◌≤◌, ◌<◌, length, map};
+ghost use Rattle.std.specs.Float.{binary64};
+ghost use Rattle.std.specs.Float.Ieee.{to_bits};
 ghost use Rattle.laws.specs.Bools.{Tells};
+ghost use Rattle.laws.specs.Lists.{All};
 ghost use Rattle.laws.specs.Written.{Written};
 ghost use Rattle.lines.specs.Numbers.{dec};
 ghost use Rattle.lines.specs.Lines.{Small};
 ghost use Rattle.ply_write.specs.Form.{head_text, words_text, face_text, faces_text, size_of, Fits};
-ghost use Rattle.ply_write.specs.Answers.{file_length, bits_of, WriteOf};
+ghost use Rattle.ply_write.specs.Answers.{file_length, bits_of, number_of, WriteOf};
 ghost use Rattle.ply_write.specs.Inner.Begin.{BeginOf};
 
+// A coordinate as the 64 bits that are written of it.
+trait Word: Copy {
+    ghost bits: { Self → ℕ };
+
+    fn word(self) -> u64
+        ensures { result ≡ bits self };
+}
+
+impl Word for u64 {
+    ghost bits = { λ w. w };
+
+    fn word(self) -> u64 {
+        self
+    }
+}
+
+impl Word for f64 {
+    ghost bits = { λ x. to_bits binary64 x };
+
+    fn word(self) -> u64 {
+        points::bits_of_float(self)
+    }
+}
+
 // The words' bytes, appended.
-fn put_words(out: &mut [u8], at: usize, words: &[u64]) -> usize
+fn put_words<W: Word>(out: &mut [u8], at: usize, words: &[W]) -> usize
     requires { at + length words.now * 8 ≤ length out.old }
-    ensures { Written out.old at (words_text words.now) out.new result }
+    ensures written { Written out.old at (words_text (map W.bits words.now)) out.new result }
+    ensures small { All (λ w. w < 2 ^ 64) (map W.bits words.now) }
 {
     let mut next = at;
-    let mut k = 0usize;
-    while k < words.len() {
-        next = little_endian::put8(out, next, words[k]);
-        k += 1;
+    for w in words {
+        next = little_endian::put8(out, next, w.word());
     }
     next
 }
@@ -40,13 +66,10 @@ fn put_faces(out: &mut [u8], at: usize, triangles: &[u32]) -> usize
     requires { at + length triangles.now / 3 * 13 ≤ length out.old }
     ensures { Written out.old at (faces_text triangles.now) out.new result }
 {
-    let n = triangles.len() / 3;
+    let (faces, _) = triangles.as_chunks::<3>();
     let mut next = at;
-    let mut k = 0usize;
-    while k < n {
-        let p = k * 3;
-        next = put_face(out, next, triangles[p], triangles[p + 1], triangles[p + 2]);
-        k += 1;
+    for [a, b, c] in faces {
+        next = put_face(out, next, *a, *b, *c);
     }
     next
 }
@@ -76,13 +99,7 @@ fn put_head(out: &mut [u8], v: u64, f: u64) -> usize
 fn digits(n: u64) -> usize
     ensures { (result ≡ length (dec n)) × (result ≤ 20) }
 {
-    let mut m = n;
-    let mut k = 1usize;
-    while 10 <= m {
-        m = m / 10;
-        k += 1;
-    }
-    k
+    n.max(1).ilog10() as usize + 1
 }
 
 // How long the file of v vertices and f faces is.
@@ -95,13 +112,12 @@ fn size(v: u64, f: u64) -> usize
 }
 
 // How long the file of so many vertices and faces is; 0 where one of them is over 999,999,999 and there is no such file.
+// C takes this number as it is, 0 with it (`file_length`), so it is no Option.
 pub fn length_of(vertices: usize, faces: usize) -> usize
     ensures { result ≡ file_length vertices faces }
 {
-    if vertices < 1_000_000_000 {
-        if faces < 1_000_000_000 {
-            return size(vertices as u64, faces as u64);
-        }
+    if vertices < 1_000_000_000 && faces < 1_000_000_000 {
+        return size(vertices as u64, faces as u64);
     }
     0
 }
@@ -110,103 +126,69 @@ pub fn length_of(vertices: usize, faces: usize) -> usize
 fn fit(n: usize, triangles: &[u32]) -> bool
     ensures { Tells (Fits n triangles.now) result }
 {
-    if n % 3 != 0 {
-        return false;
-    }
-    if triangles.len() % 3 != 0 {
-        return false;
-    }
     let v = n / 3;
-    if 999_999_999 < v {
-        return false;
-    }
-    if 999_999_999 < triangles.len() / 3 {
-        return false;
-    }
-    if mesh::named(triangles, v) {
-        return true;
-    }
-    false
+    n % 3 == 0
+        && triangles.len() % 3 == 0
+        && v < 1_000_000_000
+        && triangles.len() / 3 < 1_000_000_000
+        && mesh::named(triangles, v)
 }
 
-// What a writer answers: 0 and how long the file is, or a refusal, 10 or 11, and 0.
-#[derive(Clone, Copy)]
-pub struct Wrote {
-    pub status: usize,
-    pub length: usize,
+// Why nothing is written: the lists are not in whole threes, have over 999,999,999 vertices or faces, or an index that is no vertex;
+// or the room is too short.
+#[derive(Clone, Copy, PartialEq, Eq, Debug)]
+pub enum Refusal {
+    Unfit,
+    NoRoom,
 }
 
-// The header of a file of n coordinates and the triangles, put at the front of `out`, where the whole file has room; its end for the length.
-fn begin(n: usize, triangles: &[u32], out: &mut [u8]) -> Wrote
+impl Refusal {
+    // The number that C is told.
+    pub fn number(self) -> usize
+        ensures { result ≡ number_of self }
+    {
+        match self {
+            Refusal::Unfit => 10,
+            Refusal::NoRoom => 11,
+        }
+    }
+}
+
+// The header of a file of n coordinates and the triangles, put at the front of `out`, where the whole file has room; its end.
+fn begin(n: usize, triangles: &[u32], out: &mut [u8]) -> Result<usize, Refusal>
     ensures { BeginOf n triangles.now out.old out.new result }
 {
-    if fit(n, triangles) {
-        let v = (n / 3) as u64;
-        let f = (triangles.len() / 3) as u64;
-        if out.len() < size(v, f) {
-            return Wrote {
-                status: 11,
-                length: 0,
-            };
-        }
-        let a = put_head(out, v, f);
-        return Wrote {
-            status: 0,
-            length: a,
-        };
+    if !fit(n, triangles) {
+        return Err(Refusal::Unfit);
     }
-    Wrote {
-        status: 10,
-        length: 0,
+    let v = (n / 3) as u64;
+    let f = (triangles.len() / 3) as u64;
+    if out.len() < size(v, f) {
+        return Err(Refusal::NoRoom);
     }
+    Ok(put_head(out, v, f))
 }
 
-// The file of the words and the triangles, put at the front of `out`; the rest of `out` stays as it was.
-// Refused are lists that are not in whole threes, have over 999,999,999 vertices or faces, or an index that is no vertex (10),
-// and room that is too short (11): nothing is stored then.
-pub fn write(words: &[u64], triangles: &[u32], out: &mut [u8]) -> Wrote
+// The file of coordinates of either kind.
+fn write_file<W: Word>(words: &[W], triangles: &[u32], out: &mut [u8]) -> Result<usize, Refusal>
+    ensures { WriteOf (map W.bits words.now) triangles.now out.old out.new result }
+{
+    let a = begin(words.len(), triangles, out)?;
+    let b = put_words(out, a, words);
+    Ok(put_faces(out, b, triangles))
+}
+
+// The file of the words and the triangles, put at the front of `out`, and how long it is; the rest of `out` stays as it was.
+// Nothing is stored where it is refused.
+pub fn write(words: &[u64], triangles: &[u32], out: &mut [u8]) -> Result<usize, Refusal>
     ensures { WriteOf words.now triangles.now out.old out.new result }
 {
-    let r = begin(words.len(), triangles, out);
-    if r.status == 0 {
-        let a = r.length;
-        let b = put_words(out, a, words);
-        let c = put_faces(out, b, triangles);
-        return Wrote {
-            status: 0,
-            length: c,
-        };
-    }
-    r
-}
-
-// The bits of the floats, appended.
-fn put_floats(out: &mut [u8], at: usize, positions: &[f64]) -> usize
-    requires { at + length positions.now * 8 ≤ length out.old }
-    ensures { Written out.old at (words_text (bits_of positions.now)) out.new result }
-{
-    let mut next = at;
-    let mut k = 0usize;
-    while k < positions.len() {
-        next = little_endian::put8(out, next, points::bits_of_float(positions[k]));
-        k += 1;
-    }
-    next
+    write_file(words, triangles, out)
 }
 
 // The file of a mesh whose coordinates are floats: `write` of their bits.
-pub fn write_mesh(positions: &[f64], triangles: &[u32], out: &mut [u8]) -> Wrote
+pub fn write_mesh(positions: &[f64], triangles: &[u32], out: &mut [u8]) -> Result<usize, Refusal>
     ensures { WriteOf (bits_of positions.now) triangles.now out.old out.new result }
 {
-    let r = begin(positions.len(), triangles, out);
-    if r.status == 0 {
-        let a = r.length;
-        let b = put_floats(out, a, positions);
-        let c = put_faces(out, b, triangles);
-        return Wrote {
-            status: 0,
-            length: c,
-        };
-    }
-    r
+    write_file(positions, triangles, out)
 }

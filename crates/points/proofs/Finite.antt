@@ -1,4 +1,5 @@
 -- In an accepted frame each point of a crossed edge is at most 2 ^ 33 in size on each axis, and each mean of up to fourteen such points 2 ^ 47: no spike, and all finite. Assumes nothing.
+use Rattle.std.specs.Prelude.{Some}
 use Prim.Native.Nat.{ℕ, suc, ◌+◌, ◌*◌, ◌^◌, ◌≤◌}
 use native.Mathlib.Nat.{mul-one, one-mul, le_trans, le_of_eq, mul-le-mul_right}
 use native.Mathlib.Omega.{arith}
@@ -17,7 +18,6 @@ use Rattle.lattice.specs.declared.Sides.{Sides}
 use Rattle.lattice.specs.Sites.{SidesFit, InBox, ijk_of}
 use Rattle.points.specs.declared.Point.{Point}
 use Rattle.points.specs.declared.Frame.{Frame}
-use Rattle.points.specs.declared.EdgePoint.TheVariants.{At}
 use Rattle.points.specs.Positions.{position}
 use Rattle.points.specs.Limits.{frame_ok}
 use Rattle.points.specs.EdgePoints.{interpolate, edge_point}
@@ -44,7 +44,7 @@ box-low n p f b =
 
 -- for finite samples there is a point
 pub edge_at : (f : Frame) (a b : Ijk) (p q : Float) → finite p ≡ true → finite q ≡ true
-    → edge_point f a b p q ≡ At (interpolate (position f a) (position f b) (point_fraction p q))
+    → edge_point f a b p q ≡ Some (interpolate (position f a) (position f b) (point_fraction p q))
 unfolding edge_point
 edge_at f a b p q x y = rw (x, y)
 

@@ -1,4 +1,5 @@
 -- In an accepted frame each point of a crossed edge is at most 2 ^ 33 in size on each axis. Assumes nothing.
+use Rattle.std.specs.Prelude.{Option, None, Some}
 use mathlib.Core.Path.{◌≡◌, refl, ap, subst}
 use mathlib.Core.Bool.{Bool, true, false, ◌&&◌, cond, false≢true}
 use lib.Dec.{lit≤}
@@ -7,8 +8,6 @@ use Rattle.samples.specs.Sides.{finite, point_fraction}
 use Rattle.lattice.specs.declared.Ijk.{Ijk}
 use Rattle.points.specs.declared.Point.{Point}
 use Rattle.points.specs.declared.Frame.{Frame}
-use Rattle.points.specs.declared.EdgePoint.{EdgePoint}
-use Rattle.points.specs.declared.EdgePoint.TheVariants.{Missing, At}
 use Rattle.points.specs.Positions.{position}
 use Rattle.points.specs.Limits.{frame_ok}
 use Rattle.points.specs.EdgePoints.{interpolate, edge_point}
@@ -24,20 +23,20 @@ pub record Known (f : Frame) (a b : Ijk) (p q : Float) (c : Point) : Type 0 wher
   pub q_finite : finite q ≡ true
   pub is : interpolate (position f a) (position f b) (point_fraction p q) ≡ c
 
-abbrev there : EdgePoint → Bool
-there Missing = false
-there (At c) = true
+abbrev there : Option Point → Bool
+there None = false
+there (Some c) = true
 
-abbrev point-or : EdgePoint → Point → Point
-point-or Missing d = d
-point-or (At c) d = c
+abbrev point-or : Option Point → Point → Point
+point-or None d = d
+point-or (Some c) d = c
 
-pub known : (f : Frame) (a b : Ijk) (p q : Float) (c : Point) → edge_point f a b p q ≡ At c → Known f a b p q c
+pub known : (f : Frame) (a b : Ijk) (p q : Float) (c : Point) → edge_point f a b p q ≡ Some c → Known f a b p q c
 unfolding edge_point
 known f a b p q c e = go (finite p) (finite q) refl refl e
   where
-    go : (x y : Bool) → finite p ≡ x → finite q ≡ y → cond (x && y) (At (interpolate (position f a) (position f b) (point_fraction p q))) Missing ≡ At c → Known f a b p q c
-    go true true g h e = record { p_finite = g; q_finite = h; is = ap (λ (r : EdgePoint). point-or r c) e }
+    go : (x y : Bool) → finite p ≡ x → finite q ≡ y → cond (x && y) (Some (interpolate (position f a) (position f b) (point_fraction p q))) None ≡ Some c → Known f a b p q c
+    go true true g h e = record { p_finite = g; q_finite = h; is = ap (λ (r : Option Point). point-or r c) e }
     go true false g h e = absurd (false≢true (ap there e))
     go false y g h e = absurd (false≢true (ap there e))
 

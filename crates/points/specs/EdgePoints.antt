@@ -1,13 +1,11 @@
 -- The point on an edge: from the marked site towards the neighbour by the fraction of a point, which is held between 0 and 1; missing where a sample is not finite. Assumes nothing.
-use Rattle.std.specs.Prelude.{◌&&◌, cond, Float}
+use Rattle.std.specs.Prelude.{◌&&◌, cond, Float, Option, None, Some}
 use Rattle.std.specs.Float.{binary64}
 use Rattle.std.specs.Float.Ieee.{add, mul, sub}
 use Rattle.samples.specs.Sides.{finite, point_fraction}
 use Rattle.lattice.specs.declared.Ijk.{Ijk}
 use Rattle.points.specs.declared.Point.{Point}
 use Rattle.points.specs.declared.Frame.{Frame}
-use Rattle.points.specs.declared.EdgePoint.{EdgePoint}
-use Rattle.points.specs.declared.EdgePoint.TheVariants.{Missing, At}
 use Rattle.points.specs.Positions.{position}
 
 -- a + t (b - a), three roundings
@@ -18,6 +16,6 @@ unfoldable pub interpolate : Point → Point → Float → Point
 interpolate a b t = record { x = towards a.x b.x t; y = towards a.y b.y t; z = towards a.z b.z t }
 
 -- the marked place a has the sample p, its neighbour b has q
-unfoldable pub edge_point : Frame → Ijk → Ijk → Float → Float → EdgePoint
+unfoldable pub edge_point : Frame → Ijk → Ijk → Float → Float → Option Point
 edge_point f a b p q =
-    cond (finite p && finite q) (At (interpolate (position f a) (position f b) (point_fraction p q))) Missing
+    cond (finite p && finite q) (Some (interpolate (position f a) (position f b) (point_fraction p q))) None

@@ -1,12 +1,11 @@
 -- Examples of points and means, which antt computes: where the fraction is held a point stands at an end; -0.0 alone stays -0.0, beside another it does not. Assumes nothing.
-use Rattle.std.specs.Prelude.{◌≡◌, refl, Bool, true, false, [], ◌∷◌, ℕ, pos, Float}
+use Rattle.std.specs.Prelude.{◌≡◌, refl, Bool, true, false, [], ◌∷◌, ℕ, pos, Float, Some}
 use Rattle.std.specs.Float.{fin, binary64}
 use Rattle.std.specs.Float.Ieee.{add, mul, sub, div, neg, of_int, of_bits, round, lt, le}
 use Rattle.samples.specs.Sides.{base, finite, mark_fraction, hold, point_fraction}
 use Rattle.lattice.specs.Sites.{ijk_of}
 use Rattle.points.specs.declared.Point.{Point}
 use Rattle.points.specs.declared.Frame.{Frame}
-use Rattle.points.specs.declared.EdgePoint.TheVariants.{At}
 use Rattle.points.specs.Positions.{frame_of, along, position}
 use Rattle.points.specs.Limits.{origin_ok, step_ok, origins_ok, steps_ok, frame_ok}
 use Rattle.points.specs.EdgePoints.{interpolate, edge_point}
@@ -28,7 +27,7 @@ unfolding position along ijk_of add mul of_int
 place = refl
 
 pub middle : edge_point plain (ijk_of 1 1 1) (ijk_of 2 1 1) (whole true 1) (whole false 1)
-    ≡ At (record { x = fin true 3 (pos 1); y = fin false 1 (pos 1); z = fin true 1 (pos 2) })
+    ≡ Some (record { x = fin true 3 (pos 1); y = fin false 1 (pos 1); z = fin true 1 (pos 2) })
 unfolding edge_point interpolate point_fraction mark_fraction hold finite position along ijk_of add mul sub div lt of_int of_bits
 middle = refl
 
@@ -56,11 +55,11 @@ pub held_back : point_fraction hair (neg base) ≡ whole false 1
 unfolding point_fraction hold lt of_bits
 held_back = rw free_back
 
-pub no_spike : edge_point unit (ijk_of 1 1 1) (ijk_of 2 1 1) (neg base) hair ≡ At (position unit (ijk_of 1 1 1))
+pub no_spike : edge_point unit (ijk_of 1 1 1) (ijk_of 2 1 1) (neg base) hair ≡ Some (position unit (ijk_of 1 1 1))
 unfolding edge_point interpolate finite position along ijk_of add mul sub neg of_int of_bits
 no_spike = rw held
 
-pub no_spike_back : edge_point unit (ijk_of 2 1 1) (ijk_of 1 1 1) hair (neg base) ≡ At (position unit (ijk_of 1 1 1))
+pub no_spike_back : edge_point unit (ijk_of 2 1 1) (ijk_of 1 1 1) hair (neg base) ≡ Some (position unit (ijk_of 1 1 1))
 unfolding edge_point interpolate finite position along ijk_of add mul sub neg of_int of_bits
 no_spike_back = rw held_back
 

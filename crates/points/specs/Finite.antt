@@ -1,5 +1,5 @@
 -- What the theorems of finite points speak of: a finite point, how large one is, and a point that the build makes on a crossed edge. Assumes nothing.
-use Rattle.std.specs.Prelude.{◌≡◌, Bool, false, ◌&&◌, List, [], ◌∷◌, ℕ, ◌*◌, ◌^◌, ◌≤◌, ◌<◌, T, Float}
+use Rattle.std.specs.Prelude.{◌≡◌, Bool, false, ◌&&◌, List, [], ◌∷◌, ℕ, ◌*◌, ◌^◌, ◌≤◌, ◌<◌, T, Float, Option, None, Some}
 use Rattle.std.specs.Bool.{beq}
 use Rattle.std.specs.Float.{nan, inf, fin, binary64}
 use Rattle.std.specs.Float.Ieee.{up, down, fits}
@@ -9,8 +9,6 @@ use Rattle.lattice.specs.declared.Uvw.{Uvw}
 use Rattle.lattice.specs.Sites.{ijk_of}
 use Rattle.points.specs.declared.Point.{Point}
 use Rattle.points.specs.declared.Frame.{Frame}
-use Rattle.points.specs.declared.EdgePoint.{EdgePoint}
-use Rattle.points.specs.declared.EdgePoint.TheVariants.{Missing, At}
 use Rattle.points.specs.EdgePoints.{edge_point}
 
 unfoldable pub finite_point : Point → Bool
@@ -29,9 +27,9 @@ pub record PointUnder (p : Point) (k : ℕ) : Type 0 where
   pub z : Under p.z k
 
 -- there is a point, and it is finite
-unfoldable pub has_finite_point : EdgePoint → Bool
-has_finite_point Missing = false
-has_finite_point (At c) = finite_point c
+unfoldable pub has_finite_point : Option Point → Bool
+has_finite_point None = false
+has_finite_point (Some c) = finite_point c
 
 -- a site of a box: no side is over 32
 pub record Low (p : Uvw) : Type 0 where
@@ -50,7 +48,7 @@ pub record OnEdge (f : Frame) (h : Float) (c : Point) : Type 0 where
   pub p_fits : T (fits binary64 p)
   pub q_fits : T (fits binary64 q)
   pub differ : beq (inside p h) (inside q h) ≡ false
-  pub is : edge_point f (ijk_of a.u a.v a.w) (ijk_of b.u b.v b.w) p q ≡ At c
+  pub is : edge_point f (ijk_of a.u a.v a.w) (ijk_of b.u b.v b.w) p q ≡ Some c
 
 -- its two ends: the site that is marked, and its neighbour
 abbrev pub first_end : {f : Frame} {h : Float} {c : Point} → OnEdge f h c → Ijk

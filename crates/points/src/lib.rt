@@ -25,12 +25,6 @@ pub struct Frame {
 }
 
 // The point on an edge: missing where a sample is not finite.
-#[derive(Clone, Copy)]
-pub enum EdgePoint {
-    Missing,
-    At(Point),
-}
-
 // Points taken in one after the other: the last one, their sum from 0.0, how many.
 #[derive(Clone, Copy)]
 pub struct Sum {
@@ -121,7 +115,7 @@ pub fn interpolate_points(a: Point, b: Point, t: f64) -> Point
 }
 
 // The point on the edge from the marked site a, whose sample is p, towards its neighbour b, whose sample is q.
-pub fn edge_point(frame: Frame, a: lattice::Uvw, b: lattice::Uvw, p: f64, q: f64) -> EdgePoint
+pub fn edge_point(frame: Frame, a: lattice::Uvw, b: lattice::Uvw, p: f64, q: f64) -> Option<Point>
     requires { (a.u < 32) × (a.v < 32) × (a.w < 32) × (b.u < 32) × (b.v < 32) × (b.w < 32) }
     ensures { result ≡ edge_point frame (ijk_of a.u a.v a.w) (ijk_of b.u b.v b.w) p q }
 {
@@ -130,10 +124,10 @@ pub fn edge_point(frame: Frame, a: lattice::Uvw, b: lattice::Uvw, p: f64, q: f64
             let from = position_of(frame, a);
             let to = position_of(frame, b);
             let t = samples::point_fraction(p, q);
-            return EdgePoint::At(interpolate_points(from, to, t));
+            return Some(interpolate_points(from, to, t));
         }
     }
-    EdgePoint::Missing
+    None
 }
 
 pub fn no_points() -> Sum

@@ -12,62 +12,53 @@ fn next(x: u64) -> u64 {
     b ^ (b << 17)
 }
 
-// The bits of a float. Mode 1: of middling size, or a zero; mode 2: of middling size above 0;
-// mode 0: zeros, subnormals, the largest, infinities, NaN, values about 1.0e-9, powers of two, any other.
-fn pattern(x: u64, mode: u64) -> u64 {
+// What the floats that are made are like.
+#[derive(Clone, Copy)]
+enum Floats {
+    // Zeros, subnormals, the largest, infinities, NaN, values about 1.0e-9, powers of two, any other.
+    Any,
+    // Of middling size, or a zero.
+    Middling,
+    // Of middling size above 0.
+    Positive,
+}
+
+// The bits of a float.
+fn pattern(x: u64, floats: Floats) -> u64 {
     let sign = (x >> 63) << 63;
     let low = x & 0xf_ffff_ffff_ffff;
     let middling = ((1013 + (x >> 52) % 29) << 52) | low;
-    if mode == 2 {
-        return middling;
+    match floats {
+        Floats::Positive => middling,
+        Floats::Middling if x % 7 == 0 => sign,
+        Floats::Middling => sign | middling,
+        Floats::Any => match (x >> 40) % 16 {
+            0 => x,
+            1 => sign,
+            2 => sign | (low >> (x >> 58)),
+            3 => sign | 0x7fe0_0000_0000_0000 | low,
+            4 => sign | 0x7ff0_0000_0000_0000,
+            5 => 0x7ff0_0000_0000_0000 | low,
+            6 => sign | (0x3e11_2e0b_e826_d694 + x % 4),
+            7..=9 => sign | ((1023 + (x >> 52) % 8) << 52),
+            _ => sign | middling,
+        },
     }
-    if mode == 1 {
-        if x % 7 == 0 {
-            return sign;
-        }
-        return sign | middling;
-    }
-    let kind = (x >> 40) % 16;
-    if kind == 0 {
-        return x;
-    }
-    if kind == 1 {
-        return sign;
-    }
-    if kind == 2 {
-        return sign | (low >> (x >> 58));
-    }
-    if kind == 3 {
-        return sign | 0x7fe0_0000_0000_0000 | low;
-    }
-    if kind == 4 {
-        return sign | 0x7ff0_0000_0000_0000;
-    }
-    if kind == 5 {
-        return 0x7ff0_0000_0000_0000 | low;
-    }
-    if kind == 6 {
-        return sign | (0x3e11_2e0b_e826_d694 + x % 4);
-    }
-    if kind < 10 {
-        return sign | ((1023 + (x >> 52) % 8) << 52);
-    }
-    sign | middling
 }
 
-fn real(x: u64, mode: u64) -> f64 {
-    points::float_of_bits(pattern(x, mode))
+fn real(x: u64, floats: Floats) -> f64 {
+    points::float_of_bits(pattern(x, floats))
 }
 
 // From the next three numbers.
-fn three(x: u64, mode: u64) -> points::Point {
+fn three(x: u64, floats: Floats) -> points::Point {
     let a = next(x);
     let b = next(a);
     let c = next(b);
     points::Point {
-        x: real(a, mode),
-        y: real(b, mode),
-        z: real(c, mode),
+        x: real(a, floats),
+        y: real(b, floats),
+        z: real(c, floats),
     }
 }
 
@@ -95,46 +86,44 @@ fn show_point(rt: &impl Print, p: points::Point) -> io::Result<()> {
     show(rt, points::bits_of_float(p.z))
 }
 
-fn show_edge(rt: &impl Print, r: points::EdgePoint) -> io::Result<()> {
+fn show_edge(rt: &impl Print, r: Option<points::Point>) -> io::Result<()> {
     match r {
-        points::EdgePoint::Missing => show(rt, 0xffff),
-        points::EdgePoint::At(q) => show_point(rt, q),
+        None => show(rt, 0xffff),
+        Some(q) => show_point(rt, q),
     }
 }
 
 // The mean of n points.
-fn mean_of(x: u64, n: u32, mode: u64) -> points::Point
+fn mean_of(x: u64, n: u32, floats: Floats) -> points::Point
     requires { n ≤ 14 }
 {
     let mut y = x;
     let mut s = points::no_points();
     for _ in 0..n {
-        let p = three(y, mode);
+        let p = three(y, floats);
         s = points::with_point(s, p);
         y = after_three(y);
     }
     points::mean(s)
 }
 
-// One frame, two sites, two samples, up to fourteen points.
-fn run(rt: &impl Print, x: u64, mode: u64) -> io::Result<u64>
-    requires { mode < 2 }
-{
+// One frame, two sites, two samples, up to fourteen points: the steps from some floats, the other coordinates from others.
+fn run(rt: &impl Print, x: u64, floats: Floats, steps: Floats) -> io::Result<u64> {
     let a = after_three(x);
     let b = after_three(a);
     let c = next(b);
     let d = next(c);
     let e = next(d);
-    let frame = points::frame_of(three(x, mode), three(a, mode + mode));
+    let frame = points::frame_of(three(x, floats), three(a, steps));
     show(rt, u64::from(points::frame_ok(frame)))?;
     let from = site(c);
     let to = site(d);
     show_point(rt, points::position_of(frame, from))?;
     show_edge(
         rt,
-        points::edge_point(frame, from, to, real(d, 0), real(e, 0)),
+        points::edge_point(frame, from, to, real(d, Floats::Any), real(e, Floats::Any)),
     )?;
-    show_point(rt, mean_of(e, (e % 14) as u32 + 1, mode))?;
+    show_point(rt, mean_of(e, (e % 14) as u32 + 1, floats))?;
     Ok(next(e))
 }
 
@@ -149,7 +138,7 @@ fn near(rt: &impl Print, x: u64) -> io::Result<u64> {
     let c = next(after_three(a));
     let d = next(c);
     let e = next(d);
-    let frame = points::frame_of(three(x, 1), three(a, 2));
+    let frame = points::frame_of(three(x, Floats::Middling), three(a, Floats::Positive));
     show_edge(
         rt,
         points::edge_point(frame, site(c), site(d), close(d), close(e)),
@@ -160,8 +149,8 @@ fn near(rt: &impl Print, x: u64) -> io::Result<u64> {
 fn frames(rt: &impl Print, seed: u64) -> io::Result<u64> {
     let mut x = seed;
     for _ in 0..100 {
-        x = run(rt, x, 0)?;
-        x = run(rt, x, 1)?;
+        x = run(rt, x, Floats::Any, Floats::Any)?;
+        x = run(rt, x, Floats::Middling, Floats::Positive)?;
     }
     Ok(x)
 }

@@ -1,13 +1,14 @@
 -- The number of a request for each way out of the tests, the reply that goes with it, and their bounds. Assumes nothing.
-use mathlib.Core.Path.{◌≡◌, sym, ap, ◌∙◌}
-use mathlib.Core.Bool.{Bool, true, false, not, cond}
-use mathlib.Core.List.{List}
+use Rattle.std.specs.Prelude.{Result, Ok, Err}
+use mathlib.Core.Path.{◌≡◌, refl, sym, ap, ◌∙◌}
+use mathlib.Core.Bool.{Bool, true, false, not, cond, true≢false}
+use mathlib.Core.List.{List, [], ◌∷◌}
 use Prim.Native.Nat.{ℕ, suc, ◌≤◌}
 use native.Mathlib.Omega.{arith}
-use borrow.Author.Tests.{eq-eqb, ne_eqb, not-true, not-false}
+use borrow.Author.Tests.{eq-eqb, ne_eqb}
 use lib.Dec.{eqb}
 use lib.Ieee.{Float}
-use lib.ListN.{length}
+use lib.ListN.{length, get_or}
 use Rattle.laws.specs.Bools.{bit}
 use Rattle.laws.specs.Ranges.{sum}
 use Rattle.laws.proofs.Bools.{bit_le}
@@ -19,8 +20,8 @@ use Rattle.marks.specs.Marks.{is_crossed, crossed_count}
 use Rattle.points.specs.declared.Frame.{Frame}
 use Rattle.points.specs.Limits.{frame_ok}
 use Rattle.refusals.specs.declared.Lengths.{Lengths}
-use Rattle.refusals.specs.declared.Reply.{Reply}
-use Rattle.refusals.specs.Refusals.{settings_ok, inside_ok, site_room, vertex_room, cell_room, most, status_of, request_of}
+use Rattle.refusals.specs.declared.Refusal.{Refusal}
+use Rattle.refusals.specs.Refusals.{Reply, number, reply, settings_ok, inside_ok, site_room, vertex_room, cell_room, most, status_of, request_of}
 
 -- ---- the size of E: at most seven a site
 
@@ -38,14 +39,51 @@ pub most-most : (n : Sides) (S : List Float) (h : Float) → SidesFit n → most
 unfolding most
 most-most n S h f = omega (arith, crossed-most n S h f)
 
+-- ---- no two answers have one number and one count
+
+-- the refusals by their numbers
+abbrev numbered : List Refusal
+numbered =
+    Refusal.Settings ∷ Refusal.Settings ∷ Refusal.Sides ∷ Refusal.SampleCount ∷ Refusal.Frame ∷ Refusal.SiteRoom ∷ Refusal.VertexRoom ∷ Refusal.CellRoom
+    ∷ Refusal.Settings ∷ Refusal.Settings ∷ Refusal.Settings ∷ Refusal.Settings ∷ Refusal.Settings ∷ Refusal.Settings ∷ Refusal.Threshold ∷ []
+
+number_back : (r : Refusal) → get_or numbered (number r) Refusal.Settings ≡ r
+unfolding number
+number_back Refusal.Settings = refl
+number_back Refusal.Sides = refl
+number_back Refusal.SampleCount = refl
+number_back Refusal.Frame = refl
+number_back Refusal.Threshold = refl
+number_back Refusal.SiteRoom = refl
+number_back Refusal.VertexRoom = refl
+number_back Refusal.CellRoom = refl
+
+pub number_one : (r s : Refusal) → number r ≡ number s → r ≡ s
+number_one r s e = sym (number_back r) ∙ ap (λ (k : ℕ). get_or numbered k Refusal.Settings) e ∙ number_back s
+
+-- a refusal has a number
+pub number-some : (r : Refusal) → eqb (number r) 0 ≡ false
+unfolding number
+number-some Refusal.Settings = refl
+number-some Refusal.Sides = refl
+number-some Refusal.SampleCount = refl
+number-some Refusal.Frame = refl
+number-some Refusal.Threshold = refl
+number-some Refusal.SiteRoom = refl
+number-some Refusal.VertexRoom = refl
+number-some Refusal.CellRoom = refl
+
+pub number-not : (r : Refusal) → number r ≡ 0 → ⊥
+number-not r e = true≢false (sym (ap (λ (k : ℕ). eqb k 0) e) ∙ number-some r)
+
+pub reply_one : (a b : Result ℕ Refusal) → reply a ≡ reply b → a ≡ b
+unfolding reply
+reply_one (Ok e) (Ok f) p = ap (λ (x : Reply). Ok x.crossed) p
+reply_one (Ok e) (Err s) p = absurd (true≢false (ap (λ (x : Reply). eqb x.status 0) p ∙ number-some s))
+reply_one (Err r) (Ok f) p = absurd (true≢false (sym (ap (λ (x : Reply). eqb x.status 0) p) ∙ number-some r))
+reply_one (Err r) (Err s) p = ap Err (number_one r s (ap (λ (x : Reply). x.status) p))
+
 -- ---- the ways out
-
--- the answer of a test that was called
-pub passed : {r b : Bool} → r ≡ b → not r ≡ false → b ≡ true
-passed {r} p q = sym p ∙ not-false r q
-
-pub failed : {r b : Bool} → r ≡ b → not r ≡ true → b ≡ false
-failed {r} p q = sym p ∙ not-true r q
 
 step-most : (b : Bool) (k r : ℕ) → k ≤ 14 → r ≤ 14 → cond (not b) k r ≤ 14
 step-most true k r p q = q
@@ -63,6 +101,15 @@ pub record Stored (n : Sides) (method R : ℕ) (f : Frame) (S : List Float) (L :
   pub frame : frame_ok f ≡ true
   pub threshold : inside_ok h ≡ true
   pub room : site_room (sites n) L ≡ true
+
+-- by the answers of the tests that were called
+module _ {n : Sides} {method R : ℕ} {S : List Float} where
+  pub sized : {a b : Bool} {k : ℕ} → a ≡ settings_ok method R → a ≡ true → b ≡ sides_ok n → b ≡ true → length S ≡ k → k ≡ sites n → Sized n method R S
+  sized p a q b d e = record { settings = sym p ∙ a; sides = sym q ∙ b; samples = d ∙ e }
+
+  pub stored : {f : Frame} {L : Lengths} {h : Float} {a b d : Bool} {k : ℕ} → Sized n method R S → a ≡ frame_ok f → a ≡ true → b ≡ inside_ok h → b ≡ true → k ≡ sites n → d ≡ site_room k L → d ≡ true
+      → Stored n method R f S L h
+  stored z p a q b e r d = record { sized = z; frame = sym p ∙ a; threshold = sym q ∙ b; room = rw e at (sym r ∙ d) }
 
 module _ (n : Sides) (method R : ℕ) (f : Frame) (S : List Float) (L : Lengths) (h : Float) where
   pub refused-settings : settings_ok method R ≡ false → status_of n method R f S L h ≡ 1
@@ -111,6 +158,15 @@ module _ (n : Sides) (method R : ℕ) (f : Frame) (S : List Float) (L : Lengths)
   unfolding request_of
   reply_granted E p e = rw e (λ i. record { status = 0; crossed = p i })
 
+  -- of an answer
+  pub replied : (r : Refusal) → status_of n method R f S L h ≡ number r → reply (Err r) ≡ request_of n method R f S L h
+  unfolding request_of reply
+  replied r e = rw (e, number-some r) refl
+
+  pub replied_done : (E : ℕ) → E ≡ crossed_count n S h → status_of n method R f S L h ≡ 0 → reply (Ok E) ≡ request_of n method R f S L h
+  unfolding reply
+  replied_done E p e = reply_granted E p e
+
   -- what a caller reads in it
   pub reply_status : (r : Reply) → r ≡ request_of n method R f S L h → r.status ≡ status_of n method R f S L h
   unfolding request_of
@@ -127,6 +183,16 @@ module _ (n : Sides) (method R : ℕ) (f : Frame) (S : List Float) (L : Lengths)
   reply_none r p d =
       ap (λ (x : Reply). x.crossed) p
       ∙ ap (λ (b : Bool). cond b (crossed_count n S h) 0) (ne_eqb (status_of n method R f S L h) 0 (λ e. d (ap (λ (x : Reply). x.status) p ∙ e)))
+
+  -- and in an answer
+  module _ {a : Result ℕ Refusal} (p : reply a ≡ request_of n method R f S L h) where
+    pub told_refusal : {r : Refusal} → a ≡ Err r → number r ≡ status_of n method R f S L h
+    unfolding reply
+    told_refusal {r} e = reply_status (reply (Err r)) (ap reply (sym e) ∙ p)
+
+    pub told_granted : {E : ℕ} → a ≡ Ok E → (status_of n method R f S L h ≡ 0) × (E ≡ crossed_count n S h)
+    unfolding reply
+    told_granted {E} e = let q = ap reply (sym e) ∙ p in (sym (reply_status (reply (Ok E)) q), reply_crossed (reply (Ok E)) q refl)
 
   pub status-most : status_of n method R f S L h ≤ 14
   unfolding status_of

@@ -1,5 +1,5 @@
 -- When a build is refused and with which number: the table of docs/SCOPE.md, S9.2, a line for each number. Assumes nothing.
-use Rattle.std.specs.Prelude.{Bool, not, cond, ◌&&◌, List, ℕ, ◌*◌, ◌/◌, eqb, leb, Float, length}
+use Rattle.std.specs.Prelude.{Result, Ok, Err, Bool, not, cond, ◌&&◌, List, ℕ, ◌*◌, ◌/◌, eqb, leb, Float, length}
 use Rattle.std.specs.Float.Ieee.{le}
 use Rattle.samples.specs.Sides.{nought, one}
 use Rattle.lattice.specs.declared.Sides.{Sides}
@@ -8,7 +8,12 @@ use Rattle.marks.specs.Marks.{crossed_count}
 use Rattle.points.specs.declared.Frame.{Frame}
 use Rattle.points.specs.Limits.{frame_ok}
 use Rattle.refusals.specs.declared.Lengths.{Lengths}
-use Rattle.refusals.specs.declared.Reply.{Reply}
+use Rattle.refusals.specs.declared.Refusal.{Refusal}
+
+-- the number of a request, 0 where it is granted, and E, which is 0 where it is not
+pub record Reply : Type 0 where
+  pub status : ℕ
+  pub crossed : ℕ
 
 -- the method is 0 or 1, and the rounds are at most 4
 unfoldable pub settings_ok : ℕ → ℕ → Bool
@@ -47,6 +52,22 @@ status_of n method R f S L h =
     (cond (not (vertex_room (most n S h) L)) 6
     (cond (not (cell_room (cells n) L)) 7
     0)))))))
+
+-- the number of each refusal
+unfoldable pub number : Refusal → ℕ
+number Refusal.Settings = 1
+number Refusal.Sides = 2
+number Refusal.SampleCount = 3
+number Refusal.Frame = 4
+number Refusal.Threshold = 14
+number Refusal.SiteRoom = 5
+number Refusal.VertexRoom = 6
+number Refusal.CellRoom = 7
+
+-- what an answer says
+unfoldable pub reply : Result ℕ Refusal → Reply
+reply (Ok e) = record { status = 0; crossed = e }
+reply (Err r) = record { status = number r; crossed = 0 }
 
 -- a refusal gives zero for the count
 unfoldable pub request_of : Sides → ℕ → ℕ → Frame → List Float → Lengths → Float → Reply

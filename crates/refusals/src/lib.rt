@@ -4,7 +4,7 @@
 
 ghost use Rattle.std.specs.Prelude.{◌≡◌, ◌*◌, ◌/◌, ◌≤◌};
 ghost use Rattle.lattice.specs.Sites.{SidesFit, cells};
-ghost use Rattle.refusals.specs.Refusals.{settings_ok, inside_ok, site_room, vertex_room, cell_room, request_of};
+ghost use Rattle.refusals.specs.Refusals.{settings_ok, inside_ok, site_room, vertex_room, cell_room, number, reply, request_of};
 
 use lattice::Sides;
 use points::Frame;
@@ -25,24 +25,39 @@ pub struct Lengths {
     pub edges: usize,
 }
 
-// The number of a request, 0 where it is granted, and E, which is 0 where it is not.
-#[derive(Clone, Copy)]
-pub struct Reply {
-    pub status: usize,
-    pub crossed: usize,
+// Why a request is refused, with the numbers of docs/SCOPE.md, S9.2.
+#[derive(Clone, Copy, Debug, PartialEq, Eq)]
+pub enum Refusal {
+    Settings = 1,
+    Sides = 2,
+    SampleCount = 3,
+    Frame = 4,
+    Threshold = 14,
+    SiteRoom = 5,
+    VertexRoom = 6,
+    CellRoom = 7,
+}
+
+impl Refusal {
+    #[tactic(auto, unfolding(crate::specs::Refusals::number))]
+    pub fn number(self) -> usize
+        ensures { result ≡ number self }
+    {
+        self as usize
+    }
 }
 
 fn settings_ok(method: usize, rounds: usize) -> bool
     ensures { result ≡ settings_ok method rounds }
 {
-    if method <= 1 { rounds <= 4 } else { false }
+    method <= 1 && rounds <= 4
 }
 
 // The thresholds that a build takes: 0 to 1. A NaN is neither.
 fn inside_ok(h: f64) -> bool
     ensures { result ≡ inside_ok h }
 {
-    if 0.0 <= h { h <= 1.0 } else { false }
+    0.0 <= h && h <= 1.0
 }
 
 // Masks and edge table.
@@ -50,11 +65,7 @@ fn site_room(sites: usize, lent: Lengths) -> bool
     requires { sites ≤ 32768 }
     ensures { result ≡ site_room sites lent }
 {
-    if sites <= lent.masks {
-        tables::OWNED_EDGES * sites <= lent.table
-    } else {
-        false
-    }
+    sites <= lent.masks && tables::OWNED_EDGES * sites <= lent.table
 }
 
 // Vertices and vertex book.
@@ -63,11 +74,7 @@ fn vertex_room(crossed: usize, lent: Lengths) -> bool
     ensures { result ≡ vertex_room (3 * crossed / 2) lent }
 {
     let most = 3 * crossed / 2;
-    if 3 * most <= lent.vertices {
-        4 * most <= lent.book
-    } else {
-        false
-    }
+    3 * most <= lent.vertices && 4 * most <= lent.book
 }
 
 // Triangles and edge list.
@@ -76,20 +83,10 @@ fn cell_room(n: Sides, lent: Lengths) -> bool
     ensures { result ≡ cell_room (cells n) lent }
 {
     let cells = lattice::cell_count(n);
-    if TRIANGLE_WORDS * cells <= lent.triangles {
-        EDGE_WORDS * cells <= lent.edges
-    } else {
-        false
-    }
+    TRIANGLE_WORDS * cells <= lent.triangles && EDGE_WORDS * cells <= lent.edges
 }
 
-fn refused(status: usize) -> Reply
-    ensures { (result.status ≡ status) × (result.crossed ≡ 0) }
-{
-    Reply { status, crossed: 0 }
-}
-
-// The first test that fails gives the number. The sides are tested before they are multiplied, and the edges are counted once.
+// E, where nothing is refused; the first test that fails says why. The sides are tested before they are multiplied, and the edges are counted once.
 pub fn request(
     n: Sides,
     method: usize,
@@ -98,34 +95,34 @@ pub fn request(
     samples: &[f64],
     lent: Lengths,
     h: f64,
-) -> Reply
-    ensures { result ≡ request_of n method rounds frame samples.now lent h }
+) -> Result<usize, Refusal>
+    ensures { reply result ≡ request_of n method rounds frame samples.now lent h }
 {
     if !settings_ok(method, rounds) {
-        return refused(1);
+        return Err(Refusal::Settings);
     }
     if !lattice::sides_ok(n) {
-        return refused(2);
+        return Err(Refusal::Sides);
     }
     let sites = lattice::site_count(n);
     if samples.len() != sites {
-        return refused(3);
+        return Err(Refusal::SampleCount);
     }
     if !points::frame_ok(frame) {
-        return refused(4);
+        return Err(Refusal::Frame);
     }
     if !inside_ok(h) {
-        return refused(14);
+        return Err(Refusal::Threshold);
     }
     if !site_room(sites, lent) {
-        return refused(5);
+        return Err(Refusal::SiteRoom);
     }
     let crossed = marks::count_crossed(n, samples, h);
     if !vertex_room(crossed, lent) {
-        return refused(6);
+        return Err(Refusal::VertexRoom);
     }
     if !cell_room(n, lent) {
-        return refused(7);
+        return Err(Refusal::CellRoom);
     }
-    Reply { status: 0, crossed }
+    Ok(crossed)
 }

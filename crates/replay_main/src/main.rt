@@ -19,7 +19,7 @@ fn answer(rt: &impl Print, input: &[u8]) -> io::Result<()> {
 fn replay(rt: &impl Print, list: &[u8]) -> io::Result<()> {
     let mut at = 0;
     while at < list.len() {
-        let Num::Got { value, next } = lines::dec_line(list, at, b"file ") else {
+        let Some(Num { value, next }) = lines::dec_line(list, at, b"file ") else {
             return Ok(());
         };
         let n = value as usize;

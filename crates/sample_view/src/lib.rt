@@ -5,8 +5,7 @@
 ghost use Rattle.std.specs.Prelude.{◌≡◌};
 ghost use Rattle.sample_view.specs.View.{entry_at, entry_by, value_at, value_uvw, value_across};
 
-use lattice::{OtherEnd, Sides, Uvw};
-use samples::Sample;
+use lattice::{Sides, Uvw};
 
 // The samples that the caller lends, and the sides of their box.
 #[derive(Clone, Copy)]
@@ -18,28 +17,21 @@ pub struct SampleView<'a> {
 // ---- on a plain slice
 
 // An entry of the list: missing past its end.
-fn entry_at(samples: &[f64], s: usize) -> Sample
+fn entry_at(samples: &[f64], s: usize) -> Option<f64>
     ensures { result ≡ entry_at samples.now s }
 {
-    if s < samples.len() {
-        Sample::Value(samples[s])
-    } else {
-        Sample::Missing
-    }
+    samples.get(s).copied()
 }
 
 // The entry of what lies across an edge.
-fn entry_by(samples: &[f64], end: OtherEnd) -> Sample
+fn entry_by(samples: &[f64], end: Option<usize>) -> Option<f64>
     ensures { result ≡ entry_by samples.now end }
 {
-    match end {
-        OtherEnd::Missing => Sample::Missing,
-        OtherEnd::At(t) => entry_at(samples, t),
-    }
+    entry_at(samples, end?)
 }
 
 // The value at a site number.
-pub fn value_at(samples: &[f64], n: Sides, s: usize) -> Sample
+pub fn value_at(samples: &[f64], n: Sides, s: usize) -> Option<f64>
     ensures { result ≡ value_at n samples.now s }
 {
     if lattice::sides_ok(n) {
@@ -47,11 +39,11 @@ pub fn value_at(samples: &[f64], n: Sides, s: usize) -> Sample
             return entry_at(samples, s);
         }
     }
-    Sample::Missing
+    None
 }
 
 // The value at (u, v, w).
-pub fn value_uvw(samples: &[f64], n: Sides, u: usize, v: usize, w: usize) -> Sample
+pub fn value_uvw(samples: &[f64], n: Sides, u: usize, v: usize, w: usize) -> Option<f64>
     ensures { result ≡ value_uvw n samples.now u v w }
 {
     if lattice::sides_ok(n) {
@@ -64,11 +56,11 @@ pub fn value_uvw(samples: &[f64], n: Sides, u: usize, v: usize, w: usize) -> Sam
             }
         }
     }
-    Sample::Missing
+    None
 }
 
 // The value across edge e of the site s.
-pub fn value_across(samples: &[f64], n: Sides, s: usize, e: usize) -> Sample
+pub fn value_across(samples: &[f64], n: Sides, s: usize, e: usize) -> Option<f64>
     ensures { result ≡ value_across n samples.now s e }
 {
     if lattice::sides_ok(n) {
@@ -79,7 +71,7 @@ pub fn value_across(samples: &[f64], n: Sides, s: usize, e: usize) -> Sample
             }
         }
     }
-    Sample::Missing
+    None
 }
 
 // ---- over the struct
@@ -92,19 +84,19 @@ pub fn view_of<'a>(samples: &'a [f64], sides: Sides) -> SampleView<'a>
 }
 
 impl<'a> SampleView<'a> {
-    pub fn at(self, s: usize) -> Sample
+    pub fn at(self, s: usize) -> Option<f64>
         ensures { result ≡ value_at self.entry.sides self.entry.samples.now s }
     {
         value_at(self.samples, self.sides, s)
     }
 
-    pub fn at_uvw(self, u: usize, v: usize, w: usize) -> Sample
+    pub fn at_uvw(self, u: usize, v: usize, w: usize) -> Option<f64>
         ensures { result ≡ value_uvw self.entry.sides self.entry.samples.now u v w }
     {
         value_uvw(self.samples, self.sides, u, v, w)
     }
 
-    pub fn across(self, s: usize, e: usize) -> Sample
+    pub fn across(self, s: usize, e: usize) -> Option<f64>
         ensures { result ≡ value_across self.entry.sides self.entry.samples.now s e }
     {
         value_across(self.samples, self.sides, s, e)
@@ -112,7 +104,7 @@ impl<'a> SampleView<'a> {
 }
 
 // For a caller with plain parameters: makes the view and asks it.
-pub fn sample_uvw(samples: &[f64], n: Sides, u: usize, v: usize, w: usize) -> Sample
+pub fn sample_uvw(samples: &[f64], n: Sides, u: usize, v: usize, w: usize) -> Option<f64>
     ensures { result ≡ value_uvw n samples.now u v w }
 {
     view_of(samples, n).at_uvw(u, v, w)

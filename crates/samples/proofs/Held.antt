@@ -1,4 +1,5 @@
 -- A held fraction: it lies from 0 to 1, is the free one where that does, and is on the same side of 0.5. So whether a crossing is near does not depend on which is compared. Assumes nothing.
+use Rattle.std.specs.Prelude.{Option, None, Some}
 use Prim.Native.Nat.{ℕ, ◌+◌, ◌*◌, ◌≤◌, ◌<◌}
 use native.Mathlib.Omega.{arith}
 use mathlib.Core.Path.{◌≡◌, refl, sym}
@@ -9,8 +10,6 @@ use lib.Ieee.Fits.{down_pos}
 use borrow.Author.Tests.{ltb-true, lt-ltb, le-ltb}
 use Rattle.laws.proofs.Bools.{T_true, true_T}
 use Rattle.laws.proofs.Floats.{not-lt-le, le_not_lt}
-use Rattle.samples.specs.declared.Crossing.{Crossing}
-use Rattle.samples.specs.declared.Crossing.TheVariants.{SameSide, At}
 use Rattle.samples.specs.Sides.{nought, half, one, hold, mark_fraction, point_fraction, inside, crossing, near, crosses, is_near}
 use Rattle.samples.specs.Held.{held_crossing}
 
@@ -85,11 +84,11 @@ unfolding hold lt of_bits
 hold_nan = refl
 
 -- ---- so what asks of a fraction only on which side of 0.5 it is has one answer with either
-pub held_by : {A : Type 0} (f : Crossing → A) → ((t : Float) → f (At (hold t)) ≡ f (At t)) → (a b h : Float) → f (held_crossing a b h) ≡ f (crossing a b h)
+pub held_by : {A : Type 0} (f : Option Float → A) → ((t : Float) → f (Some (hold t)) ≡ f (Some t)) → (a b h : Float) → f (held_crossing a b h) ≡ f (crossing a b h)
 unfolding held_crossing crossing point_fraction
 held_by f same a b h = go (beq (inside a h) (inside b h))
   where
-    go : (p : Bool) → f (cond p SameSide (At (hold (mark_fraction a b)))) ≡ f (cond p SameSide (At (mark_fraction a b)))
+    go : (p : Bool) → f (cond p None (Some (hold (mark_fraction a b)))) ≡ f (cond p None (Some (mark_fraction a b)))
     go true = refl
     go false = same (mark_fraction a b)
 

@@ -1,12 +1,8 @@
 -- Which side a value is on, and where the surface crosses an edge. The threshold h is a parameter throughout. Assumes nothing.
-use Rattle.std.specs.Prelude.{Bool, true, false, cond, Float}
+use Rattle.std.specs.Prelude.{Bool, true, false, cond, Float, Option, None, Some}
 use Rattle.std.specs.Bool.{beq}
 use Rattle.std.specs.Float.{nan, inf, fin, binary64}
 use Rattle.std.specs.Float.Ieee.{lt, neg, sub, div, of_bits}
-use Rattle.samples.specs.declared.Sample.{Sample}
-use Rattle.samples.specs.declared.Sample.TheVariants.{Missing, Value}
-use Rattle.samples.specs.declared.Crossing.{Crossing}
-use Rattle.samples.specs.declared.Crossing.TheVariants.{SameSide, At}
 
 -- the base threshold, the f64 nearest to 1.0e-9
 abbrev pub base : Float
@@ -32,12 +28,12 @@ finite (inf s) = false
 finite (fin s m e) = true
 
 -- a value that is not finite counts as missing where only finite ones are asked for
-unfoldable pub when_finite : Float → Sample
-when_finite x = cond (finite x) (Value x) Missing
+unfoldable pub when_finite : Float → Option Float
+when_finite x = cond (finite x) (Some x) None
 
-unfoldable pub known : Sample → Sample
-known Missing = Missing
-known (Value x) = when_finite x
+unfoldable pub known : Option Float → Option Float
+known None = None
+known (Some x) = when_finite x
 
 -- the fraction of a mark, which is free
 unfoldable pub mark_fraction : Float → Float → Float
@@ -52,18 +48,18 @@ unfoldable pub point_fraction : Float → Float → Float
 point_fraction a b = hold (mark_fraction a b)
 
 -- the edge from a to b: the same side, or the fraction
-unfoldable pub crossing : Float → Float → Float → Crossing
-crossing a b h = cond (beq (inside a h) (inside b h)) SameSide (At (mark_fraction a b))
+unfoldable pub crossing : Float → Float → Float → Option Float
+crossing a b h = cond (beq (inside a h) (inside b h)) None (Some (mark_fraction a b))
 
 -- The crossing is nearer to the first end: the fraction is below 0.5. At 0.5 and at NaN it is not.
-abbrev pub near : Crossing → Bool
-near SameSide = false
-near (At t) = lt t half
+abbrev pub near : Option Float → Bool
+near None = false
+near (Some t) = lt t half
 
 unfoldable pub is_near : Float → Float → Float → Bool
 is_near a b h = near (crossing a b h)
 
 -- the two ends are on different sides
-abbrev pub crosses : Crossing → Bool
-crosses SameSide = false
-crosses (At t) = true
+abbrev pub crosses : Option Float → Bool
+crosses None = false
+crosses (Some t) = true

@@ -8,20 +8,6 @@ ghost use Rattle.samples.specs.Sides.{inside, finite, mark_fraction, hold, point
 // Inside means below -INSIDE where nobody chose another threshold.
 pub const INSIDE: f64 = 1.0e-9;
 
-// What is known of a sample: missing outside the box.
-#[derive(Clone, Copy)]
-pub enum Sample {
-    Missing,
-    Value(f64),
-}
-
-// Where the surface crosses an edge, as a fraction of its length.
-#[derive(Clone, Copy)]
-pub enum Crossing {
-    SameSide,
-    At(f64),
-}
-
 // A NaN is outside.
 pub fn is_inside(v: f64, h: f64) -> bool
     ensures { result ≡ inside v h }
@@ -37,15 +23,11 @@ pub fn is_finite(x: f64) -> bool
     if x < top { -top < x } else { false }
 }
 
-// A value that is not finite counts as missing where only finite ones are asked for.
-pub fn finite_sample(x: f64) -> Sample
+// A value that is not finite counts as missing, and so as None, where only finite ones are asked for.
+pub fn finite_sample(x: f64) -> Option<f64>
     ensures { result ≡ when_finite x }
 {
-    if is_finite(x) {
-        Sample::Value(x)
-    } else {
-        Sample::Missing
-    }
+    if is_finite(x) { Some(x) } else { None }
 }
 
 // The fraction that marks and the flat-hole test compare with 0.5.
@@ -75,12 +57,12 @@ pub fn point_fraction(a: f64, b: f64) -> f64
     hold(mark_fraction(a, b))
 }
 
-// The crossing of the edge from a to b.
-pub fn crossing_alpha(a: f64, b: f64, h: f64) -> Crossing
+// Where the surface crosses the edge from a to b, as a fraction of its length: nowhere if both ends are on one side.
+pub fn crossing_alpha(a: f64, b: f64, h: f64) -> Option<f64>
     ensures { result ≡ crossing a b h }
 {
     if is_inside(a, h) == is_inside(b, h) {
-        return Crossing::SameSide;
+        return None;
     }
-    Crossing::At(mark_fraction(a, b))
+    Some(mark_fraction(a, b))
 }

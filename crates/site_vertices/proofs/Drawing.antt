@@ -1,4 +1,5 @@
 -- Edges drawn one after the other: the two ways out of one edge, and the loop over the edges of a cluster. Assumes nothing.
+use Rattle.std.specs.Prelude.{Option, None, Some}
 use mathlib.Core.Path.{◌≡◌, refl, sym, ap, ◌∙◌}
 use mathlib.Core.Logic.{⊎_elim}
 use mathlib.Core.List.{List, [], ◌∷◌, ◌++◌, map, append_assoc}
@@ -20,8 +21,6 @@ use Rattle.lattice.specs.Across.{across_of}
 use Rattle.points.specs.declared.Frame.{Frame}
 use Rattle.points.specs.declared.Point.{Point}
 use Rattle.points.specs.declared.Sum.{Sum}
-use Rattle.points.specs.declared.EdgePoint.{EdgePoint}
-use Rattle.points.specs.declared.EdgePoint.TheVariants as on
 use Rattle.points.specs.Means.{none, more, gather, sum_of}
 use Rattle.stages.specs.Boxes.{owned}
 use Rattle.stages.specs.Meshes.{numbers}
@@ -62,19 +61,19 @@ module _ (f : Frame) (n : Sides) (S : List Float) (s : ℕ) where
   -- ---- one edge
 
   module _ (i e : ℕ) (t : List ℕ) (q : Sum) where
-    pub edge_none : place_of f n S s (across_of n s e) ≡ on.Missing → EdgesDrawn f n S s (e ∷ []) i t t q q
+    pub edge_none : place_of f n S s (across_of n s e) ≡ None → EdgesDrawn f n S s (e ∷ []) i t t q q
     unfolding points_of pointed_of keep paint is_at
     edge_none a = record { sum = sym (rw a refl); table = sym (rw (point_at f n S s (across_of n s e), a) refl) }
 
-    pub edge-some : (p : Point) (k : ℕ) → place_of f n S s (across_of n s e) ≡ on.At p → k ≡ owned n s e → EdgesDrawn f n S s (e ∷ []) i t (set t k i) q (more q p)
+    pub edge-some : (p : Point) (k : ℕ) → place_of f n S s (across_of n s e) ≡ Some p → k ≡ owned n s e → EdgesDrawn f n S s (e ∷ []) i t (set t k i) q (more q p)
     unfolding points_of pointed_of keep paint is_at
     edge-some p k a o = record { sum = sym (rw a refl); table = sym (rw (point_at f n S s (across_of n s e), a, ← o) refl) }
 
   -- it adds at most one point
-  point-count : (o : EdgePoint) (q : Sum) → (gather q (listed o ++ [])).count ≤ suc q.count
+  point-count : (o : Option Point) (q : Sum) → (gather q (listed o ++ [])).count ≤ suc q.count
   unfolding more
-  point-count on.Missing q = omega arith
-  point-count (on.At p) q = omega arith
+  point-count None q = omega arith
+  point-count (Some p) q = omega arith
 
   edge_count : {i e : ℕ} {t t' : List ℕ} {q r : Sum} → EdgesDrawn f n S s (e ∷ []) i t t' q r → r.count ≤ suc q.count
   unfolding points_of

@@ -1,4 +1,5 @@
 -- What the functions of one site need of an edge's other end. Assumes nothing.
+use Rattle.std.specs.Prelude.{Option, Some}
 use mathlib.Core.Path.{◌≡◌, sym, ◌∙◌}
 use mathlib.Core.List.{List}
 use Prim.Native.Nat.{ℕ, ◌<◌}
@@ -7,8 +8,6 @@ use lib.ListN.{length}
 use lib.Ieee.{Float}
 use Rattle.lattice.specs.declared.Sides.{Sides}
 use Rattle.lattice.specs.declared.Uvw.{Uvw}
-use Rattle.lattice.specs.declared.OtherEnd.{OtherEnd}
-use Rattle.lattice.specs.declared.OtherEnd.TheVariants as end
 use Rattle.lattice.specs.Sites.{SidesFit, sites, InBox}
 use Rattle.lattice.specs.Across.{across_of}
 use Rattle.lattice.proofs.Sites.{sites-most}
@@ -21,11 +20,11 @@ pub record Reached (n : Sides) (S : List Float) (s e t : ℕ) : Type 0 where
   pub here_in : s < length S
   pub there_in : t < length S
   pub small : t < 32768
-  pub leads : across_of n s e ≡ end.At t
+  pub leads : across_of n s e ≡ Some t
 
-pub reached : (n : Sides) (S : List Float) (s e t : ℕ) (o : OtherEnd) → Sampled n S → s < sites n → o ≡ across_of n s e → o ≡ end.At t → Reached n S s e t
+pub reached : (n : Sides) (S : List Float) (s e t : ℕ) (o : Option ℕ) → Sampled n S → s < sites n → o ≡ across_of n s e → o ≡ Some t → Reached n S s e t
 reached n S s e t o r h a q =
-    let x : across_of n s e ≡ end.At t = sym a ∙ q in
+    let x : across_of n s e ≡ Some t = sym a ∙ q in
     let k = (across-joined n s e t r.fit h x).inside in
     record { inside = k; here_in = omega (arith, r.samples); there_in = omega (arith, k, r.samples); small = omega (arith, k, sites-most n r.fit); leads = x }
 

@@ -11,24 +11,20 @@ ghost use Rattle.stages.specs.Samples.{end_by, ends_of, place_of};
 ghost use Rattle.site_vertices.specs.Inner.Drawing.{Drawable, EdgesDrawn, ClusterDrawn, VertexPut};
 ghost use Rattle.site_vertices.specs.Inner.Appending.{Appended, Space, singles_in, singles_of};
 
-use lattice::{OtherEnd, Sides};
-use points::{EdgePoint, Frame, Point, Sum};
-use samples::Sample;
+use lattice::Sides;
+use points::{Frame, Point, Sum};
 
-// The sample at the other end of an edge.
-fn end_at(n: Sides, samples: &[f64], s: usize, e: usize) -> Sample
+// The sample at the other end of an edge, if that is in the box.
+fn end_at(n: Sides, samples: &[f64], s: usize, e: usize) -> Option<f64>
     requires { Sampled n samples.now × (s < sites n) × (e < 14) }
     ensures { result ≡ end_by samples.now (across_of n s e) }
 {
-    let end = lattice::across(n, s, e);
-    match end {
-        OtherEnd::Missing => Sample::Missing,
-        OtherEnd::At(t) => Sample::Value(samples[t]),
-    }
+    let t = lattice::across(n, s, e)?;
+    Some(samples[t])
 }
 
 // The fourteen ends of a site, as the topology test takes them.
-pub fn ends_of(n: Sides, samples: &[f64], s: usize) -> [Sample; 14]
+pub fn ends_of(n: Sides, samples: &[f64], s: usize) -> [Option<f64>; 14]
     requires { Sampled n samples.now × (s < sites n) }
     ensures { result ≡ ends_of n samples.now s }
 {
@@ -74,20 +70,15 @@ pub fn edge_place(n: Sides, s: usize, e: usize) -> usize
     label
 }
 
-// The point on an edge of a site.
-fn place_of(frame: Frame, n: Sides, samples: &[f64], s: usize, e: usize) -> EdgePoint
+// The point on an edge of a site, where both ends are in the box and finite.
+fn place_of(frame: Frame, n: Sides, samples: &[f64], s: usize, e: usize) -> Option<Point>
     requires { Sampled n samples.now × (s < sites n) × (e < 14) }
     ensures { result ≡ place_of frame n samples.now s (across_of n s e) }
 {
-    let end = lattice::across(n, s, e);
-    match end {
-        OtherEnd::Missing => EdgePoint::Missing,
-        OtherEnd::At(t) => {
-            let a = lattice::coordinates(n, s);
-            let b = lattice::coordinates(n, t);
-            points::edge_point(frame, a, b, samples[s], samples[t])
-        }
-    }
+    let t = lattice::across(n, s, e)?;
+    let a = lattice::coordinates(n, s);
+    let b = lattice::coordinates(n, t);
+    points::edge_point(frame, a, b, samples[s], samples[t])
 }
 
 // One edge of a vertex: where it has a point, the point joins the sum, and the edge's place takes the vertex's number.
@@ -106,8 +97,8 @@ fn draw_edge(
 {
     let place = place_of(frame, n, samples, s, e);
     match place {
-        EdgePoint::Missing => sum,
-        EdgePoint::At(p) => {
+        None => sum,
+        Some(p) => {
             let k = edge_place(n, s, e);
             table[k] = id;
             points::with_point(sum, p)

@@ -1,4 +1,5 @@
 -- The crossed edges of the march are those that are counted, and at every stage of a build of finite samples each of them has a vertex. Assumes nothing.
+use Rattle.std.specs.Prelude.{None, Some}
 use mathlib.Core.Path.{◌≡◌, refl, sym, ◌∙◌}
 use mathlib.Core.Logic.{◌≢◌}
 use mathlib.Core.Bool.{Bool, true, false, not, ◌&&◌, cond, beq}
@@ -8,7 +9,6 @@ use native.Mathlib.Omega.{arith}
 use lib.Dec.{ltb}
 use borrow.Author.Tests.{ltb-true, lt-ltb}
 use lib.ListN.{length}
-use Rattle.samples.specs.declared.Crossing.TheVariants.{SameSide, At}
 use Rattle.lattice.specs.declared.Sides.{Sides}
 use lib.Ieee.{Float}
 use Rattle.stages.specs.Vertices.{Vertex}
@@ -27,13 +27,12 @@ use Rattle.marks.specs.Marks.{crossed_by, is_crossed, sample}
 use Rattle.laws.proofs.Bools.{and-apart}
 use Rattle.lattice.proofs.Sites.{site-lt}
 use Rattle.lattice.proofs.OtherEnds.{above-across, box_in}
-use Rattle.lattice.specs.declared.OtherEnd.TheVariants as end
 
 crosses-is : (a c h : Float) → crosses (crossing a c h) ≡ not (beq (inside a h) (inside c h))
 unfolding crossing
 crosses-is a c h = go (beq (inside a h) (inside c h))
   where
-    go : (d : Bool) → crosses (cond d SameSide (At (mark_fraction a c))) ≡ not d
+    go : (d : Bool) → crosses (cond d None (Some (mark_fraction a c))) ≡ not d
     go true = refl
     go false = refl
 
@@ -41,7 +40,7 @@ crosses-is a c h = go (beq (inside a h) (inside c h))
 across-is : (n : Sides) (u v w l : ℕ) → in_box n u v w ≡ true → l < 7
     → across_of n (site_of n u v w) l
     ≡ cond (in_box n (step (du (corner_of l)) u) (step (dv (corner_of l)) v) (step (dw (corner_of l)) w))
-    (end.At (site_of n (step (du (corner_of l)) u) (step (dv (corner_of l)) v) (step (dw (corner_of l)) w))) end.Missing
+    (Some (site_of n (step (du (corner_of l)) u) (step (dv (corner_of l)) v) (step (dw (corner_of l)) w))) None
 unfolding upward
 across-is n u v w l i hl = sym (above-across n (record { u = u; v = v; w = w }) l (box_in n u v w i) hl)
 
@@ -55,7 +54,7 @@ module _ (n : Sides) (S : List Float) (h : Float) (cluster : Bool) (vs : List Ve
       t : ℕ
       t = site_of n (step (du (corner_of l)) u) (step (dv (corner_of l)) v) (step (dw (corner_of l)) w)
 
-      go : (c : Bool) → c && not (beq (inside (sample S (site_of n u v w)) h) (inside (sample S t) h)) ≡ crossed_by S h (site_of n u v w) (cond c (end.At t) end.Missing)
+      go : (c : Bool) → c && not (beq (inside (sample S (site_of n u v w)) h) (inside (sample S t) h)) ≡ crossed_by S h (site_of n u v w) (cond c (Some t) None)
       go true = sym (crosses-is (sample S (site_of n u v w)) (sample S t) h)
       go false = refl
 

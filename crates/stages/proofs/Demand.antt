@@ -1,4 +1,5 @@
 -- A build of the samples: at every stage each crossed edge with finite ends has exactly one unretired vertex, the held counts add up, and vertices never exceed 3E/2. Assumes nothing.
+use Rattle.std.specs.Prelude.{Option, None, Some}
 use mathlib.Core.Path.{◌≡◌, refl, ap, ap₂, sym, ◌∙◌}
 use mathlib.Core.Logic.{⊎_elim}
 use mathlib.Core.Bool.{Bool, true, false, ◌&&◌, false≢true}
@@ -9,7 +10,6 @@ use lib.Dec.{eqb}
 use borrow.Author.Tests.{eqb-true, eq-eqb, ne_eqb}
 use lib.ListN.{length, get_or}
 use Rattle.lattice.specs.declared.Sides.{Sides}
-use Rattle.lattice.specs.declared.OtherEnd.{OtherEnd}
 use lib.Ieee.{Float}
 use Rattle.stages.specs.Vertices.{Vertex, candidates, held}
 use Rattle.stages.specs.Meshes.{book_of, find, table_of}
@@ -34,7 +34,6 @@ use Rattle.laws.proofs.Ranges.{lt-or}
 use Rattle.laws.proofs.Sums.{sum-le, sum_pick, sum_rows, sum_same, sum-under, sum-zero}
 use Rattle.lattice.proofs.Sites.{sites-most}
 use Rattle.lattice.proofs.OtherEnds.{across-joined}
-use Rattle.lattice.specs.declared.OtherEnd.TheVariants as end
 
 eqb-turn : (k e : ℕ) → eqb k e ≡ eqb e k
 eqb-turn k e = bool_ext (eqb k e) (eqb e k) (λ h. eq-eqb e k (sym (eqb-true k e h))) (λ h. eq-eqb k e (sym (eqb-true e k h)))
@@ -60,7 +59,7 @@ crossed_places n S h =
     ∙ sym (sum_rows (sites n) 7 (λ k. bit (is_crossed n S h (k / 7) (k % 7))))
     ∙ ap (λ (m : ℕ). sum m (λ k. bit (is_crossed n S h (k / 7) (k % 7)))) e
 
-no_crossing : (S : List Float) (h : Float) (s : ℕ) → crossed_by S h s end.Missing ≡ true → ⊥
+no_crossing : (S : List Float) (h : Float) (s : ℕ) → crossed_by S h s None ≡ true → ⊥
 unfolding crossed_by
 no_crossing S h s c = false≢true c
 
@@ -137,9 +136,9 @@ module _ (n : Sides) (S : List Float) (h : Float) (cluster : Bool) (f : SidesFit
     unfolding is_crossed point_by AllFinite
     crossed-point s l hs c = go (across_of n s l) refl
       where
-        go : (o : OtherEnd) → across_of n s l ≡ o → point_by S s (across_of n s l) ≡ true
-        go end.Missing a = absurd (no_crossing S h s (sym (ap (crossed_by S h s) a) ∙ c))
-        go (end.At t) a = ap (point_by S s) a ∙ and_yes (F s hs) (F t (across-joined n s l t f hs a).inside)
+        go : (o : Option ℕ) → across_of n s l ≡ o → point_by S s (across_of n s l) ≡ true
+        go None a = absurd (no_crossing S h s (sym (ap (crossed_by S h s) a) ∙ c))
+        go (Some t) a = ap (point_by S s) a ∙ and_yes (F s hs) (F t (across-joined n s l t f hs a).inside)
 
     pub pointed-crossed : (k : ℕ) → k < 7 * sites n → pointed n S h k ≡ is_crossed n S h (k / 7) (k % 7)
     unfolding pointed

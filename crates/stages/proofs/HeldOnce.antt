@@ -1,4 +1,5 @@
 -- The edges that the candidates of the samples hold: each crossed edge with finite ends once, and nothing else. Assumes nothing.
+use Rattle.std.specs.Prelude.{Option, None, Some}
 use mathlib.Core.Path.{◌≡◌, refl, ap, sym, ◌∙◌}
 use mathlib.Core.Logic.{⊎_elim}
 use mathlib.Core.Bool.{Bool, true, false, ◌&&◌, cond, and_comm}
@@ -9,7 +10,6 @@ use native.Mathlib.Nat.{mul_comm}
 use lib.Dec.{eqb}
 use borrow.Author.Tests.{lt-ltb, le-ltb}
 use Rattle.lattice.specs.declared.Sides.{Sides}
-use Rattle.lattice.specs.declared.OtherEnd.{OtherEnd}
 use lib.Ieee.{Float}
 use Rattle.stages.specs.Boxes.{Box, owned, reach}
 use Rattle.stages.specs.Vertices.{candidates, filled, fresh, held, keys, site_vertices}
@@ -33,7 +33,6 @@ use Rattle.laws.proofs.Sums.{count-spread, each-total, sum_rows, sum_same}
 use Rattle.tables.proofs.Edges.{reverse_high}
 use Rattle.lattice.proofs.OtherEnds.{across_back}
 use Rattle.marks.proofs.Count.{marks_weigh, owner_weight}
-use Rattle.lattice.specs.declared.OtherEnd.TheVariants as end
 
 -- ---- the vertices of a site, as a count over its clusters
 
@@ -72,7 +71,7 @@ module _ (b : Box) (q : ℕ → Bool) (s : ℕ) where
 -- ---- the same by the owners of the edges
 
 -- an edge's point does not depend on the end it is seen from
-point_turned : (S : List Float) (s t : ℕ) → point_by S t (end.At s) ≡ point_by S s (end.At t)
+point_turned : (S : List Float) (s t : ℕ) → point_by S t (Some s) ≡ point_by S s (Some t)
 unfolding point_by
 point_turned S s t = and_comm (finite (sample S t)) (finite (sample S s))
 
@@ -93,15 +92,15 @@ module _ (n : Sides) (S : List Float) (h : Float) (cluster : Bool) (f : SidesFit
     weight : ℕ → ℕ → ℕ
     weight s l = bit (point_by S s (across_of n s l) && q (7 * s + l))
 
-    weight_is : (s e t : ℕ) → s < sites n → e < 14 → across_of n s e ≡ end.At t
-        → owner_weight weight s e (end.At t) ≡ bit (point_by S s (end.At t) && q (owned n s e))
+    weight_is : (s e t : ℕ) → s < sites n → e < 14 → across_of n s e ≡ Some t
+        → owner_weight weight s e (Some t) ≡ bit (point_by S s (Some t) && q (owned n s e))
     unfolding owner_weight weight
     weight_is s e t hs he a =
         ⊎_elim
         (λ k. rw (lt-ltb e 7 k) (λ i. bit (point_by S s (a i) && q (sym (owned-low n s e k) i))))
         (λ k.
         let r : reverse e ≡ e - 7 = reverse_high e k he in
-        let b : across_of n t (e - 7) ≡ end.At s = ap (across_of n t) (sym r) ∙ across_back n s e t f hs he a in
+        let b : across_of n t (e - 7) ≡ Some s = ap (across_of n t) (sym r) ∙ across_back n s e t f hs he a in
         let z : s ≡ t + reach n (e - 7) = below-reach n s e t f hs k a in
         let o : 7 * t + (e - 7) ≡ owned n s e = omega (arith, owned_high n s e k, z) in
         rw (le-ltb e 7 k) ((λ i. bit (point_by S t (b i) && q (o i))) ∙ ap (λ (c : Bool). bit (c && q (owned n s e))) (point_turned S s t))) (lt-or e 7)
@@ -111,11 +110,11 @@ module _ (n : Sides) (S : List Float) (h : Float) (cluster : Bool) (f : SidesFit
     unfolding wanted box_of marked marked_by owner_weight point_by bit
     edge_weight s e hs he = ap (λ (m : ℕ). bit (point_by S s (across_of n s e) && q (owned n s e)) * m) (mark-is n S h s e he) ∙ go (across_of n s e) refl
       where
-        go : (o : OtherEnd) → across_of n s e ≡ o
+        go : (o : Option ℕ) → across_of n s e ≡ o
             → bit (point_by S s o && q (owned n s e)) * bit (marked_by S h s e o) ≡ bit (marked_by S h s e o) * owner_weight weight s e o
-        go end.Missing a = refl
-        go (end.At t) a =
-            ap (λ (m : ℕ). m * bit (marked_by S h s e (end.At t))) (sym (weight_is s e t hs he a)) ∙ mul_comm (owner_weight weight s e (end.At t)) (bit (marked_by S h s e (end.At t)))
+        go None a = refl
+        go (Some t) a =
+            ap (λ (m : ℕ). m * bit (marked_by S h s e (Some t))) (sym (weight_is s e t hs he a)) ∙ mul_comm (owner_weight weight s e (Some t)) (bit (marked_by S h s e (Some t)))
 
     site-sum : (s : ℕ) → s < sites n → total (keys_of box q) (site_vertices box s) ≡ sum 14 (λ e. bit (marked n S h s e) * owner_weight weight s e (across_of n s e))
     unfolding box_of

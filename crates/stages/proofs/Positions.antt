@@ -1,4 +1,5 @@
 -- Every position of every stage of a build is finite, whatever the samples are: a vertex has some edges, and each of them is crossed and has finite ends. Assumes nothing.
+use Rattle.std.specs.Prelude.{Option, None, Some}
 use mathlib.Core.Path.{◌≡◌, refl, sym, ap, ◌∙◌}
 use mathlib.Core.Bool.{Bool, true, false, beq, cond, false≢true}
 use mathlib.Core.List.{List, [], ◌∷◌, map}
@@ -11,12 +12,8 @@ use Rattle.laws.specs.Lists.{keep, All}
 use Rattle.laws.proofs.Bools.{and-apart, beq_sym}
 use Rattle.laws.proofs.Ranges.{each_all, each-one-length}
 use Rattle.laws.proofs.Lists.{keep-le, keep_pass, all_map}
-use Rattle.samples.specs.declared.Crossing.{Crossing}
-use Rattle.samples.specs.declared.Crossing.TheVariants.{SameSide, At}
 use Rattle.samples.specs.Sides.{finite, inside, mark_fraction, crossing, near}
 use Rattle.lattice.specs.declared.Sides.{Sides}
-use Rattle.lattice.specs.declared.OtherEnd.{OtherEnd}
-use Rattle.lattice.specs.declared.OtherEnd.TheVariants as end
 use Rattle.lattice.specs.Sites.{SidesFit, sites, uvw_of, ijk_of}
 use Rattle.lattice.specs.Across.{across_of}
 use Rattle.lattice.proofs.Sites.{uvw_box}
@@ -24,7 +21,6 @@ use Rattle.lattice.proofs.OtherEnds.{across-joined}
 use Rattle.marks.specs.Marks.{sample, beyond, marked_by, marked}
 use Rattle.points.specs.declared.Point.{Point}
 use Rattle.points.specs.declared.Frame.{Frame}
-use Rattle.points.specs.declared.EdgePoint.TheVariants as on
 use Rattle.points.specs.Limits.{frame_ok}
 use Rattle.points.specs.Means.{mean_of}
 use Rattle.points.specs.Finite.{Under, PointUnder, OnEdge, AllOnEdges}
@@ -85,15 +81,15 @@ module _ (b : Box) where
 -- ---- a marked edge is crossed
 
 -- whichever end is asked about: an edge that is not crossed is marked at neither
-differs : (marks : Crossing → Bool) → marks SameSide ≡ false → (x y h : Float) → marks (crossing x y h) ≡ true → beq (inside x h) (inside y h) ≡ false
+differs : (marks : Option Float → Bool) → marks None ≡ false → (x y h : Float) → marks (crossing x y h) ≡ true → beq (inside x h) (inside y h) ≡ false
 unfolding crossing
 differs marks none x y h = go (beq (inside x h) (inside y h))
   where
-    go : (d : Bool) → marks (cond d SameSide (At (mark_fraction x y))) ≡ true → d ≡ false
+    go : (d : Bool) → marks (cond d None (Some (mark_fraction x y))) ≡ true → d ≡ false
     go true m = absurd (false≢true (sym none ∙ m))
     go false m = refl
 
-marked_differs : (S : List Float) (h : Float) (s e t : ℕ) → marked_by S h s e (end.At t) ≡ true → beq (inside (sample S s) h) (inside (sample S t) h) ≡ false
+marked_differs : (S : List Float) (h : Float) (s e t : ℕ) → marked_by S h s e (Some t) ≡ true → beq (inside (sample S s) h) (inside (sample S t) h) ≡ false
 unfolding marked_by
 marked_differs S h s e t m = go (ltb e 7) m
   where
@@ -121,18 +117,18 @@ filled-some (e ∷ es) h = omega arith
 
 module _ (f : Frame) (n : Sides) (S : List Float) (h : Float) (ok : frame_ok f ≡ true) (fit : SidesFit n) (double : AllDouble S) where
   -- the point of a marked edge whose ends are finite
-  record Stands (s : ℕ) (o : OtherEnd) : Type 0 where
+  record Stands (s : ℕ) (o : Option ℕ) : Type 0 where
     pub point : Point
-    pub is : place_of f n S s o ≡ on.At point
+    pub is : place_of f n S s o ≡ Some point
     pub on_edge : OnEdge f h point
 
   stands : (s e : ℕ) → s < sites n → marked n S h s e ≡ true → point_by S s (across_of n s e) ≡ true → Stands s (across_of n s e)
   unfolding marked point_by place_of AllDouble
   stands s e hs m p = go (across_of n s e) refl m p
     where
-      go : (o : OtherEnd) → across_of n s e ≡ o → marked_by S h s e o ≡ true → point_by S s o ≡ true → Stands s o
-      go end.Missing a m p = absurd (false≢true p)
-      go (end.At t) a m p =
+      go : (o : Option ℕ) → across_of n s e ≡ o → marked_by S h s e o ≡ true → point_by S s o ≡ true → Stands s o
+      go None a m p = absurd (false≢true p)
+      go (Some t) a m p =
           let q = and-apart (finite (sample S s)) (finite (sample S t)) p in
           let i = edge_at f (ijk_of (uvw_of n s).u (uvw_of n s).v (uvw_of n s).w) (ijk_of (uvw_of n t).u (uvw_of n t).v (uvw_of n t).w) (sample S s) (sample S t) q.0 q.1 in
           record {

@@ -1,4 +1,5 @@
 -- The box of the samples: each marked edge of a site is in exactly one of its clusters, and nothing else is. Assumes nothing.
+use Rattle.std.specs.Prelude.{Option}
 use mathlib.Core.Path.{◌≡◌, refl, ap, sym, ◌∙◌, subst}
 use mathlib.Core.Logic.{⊎_elim}
 use mathlib.Core.Bool.{Bool, true, false, cond}
@@ -9,7 +10,6 @@ use lib.Dec.{eqb}
 use borrow.Author.Tests.{eq-eqb}
 use lib.ListN.{length, get_or, replicate, take}
 use lib.Seq.{take-append_seam}
-use Rattle.samples.specs.declared.Sample.{Sample}
 use Rattle.lattice.specs.declared.Sides.{Sides}
 use lib.Ieee.{Float}
 use Rattle.stages.specs.Meshes.{numbers}
@@ -89,7 +89,7 @@ mask_low : (n : Sides) (S : List Float) (h : Float) (s : ℕ) → mask_at n S h 
 unfolding mask_at
 mask_low n S h s = mask_lt 14 (marked n S h s)
 
-clusters_are : (m : ℕ) (cluster : Bool) (ends : List Sample) (h : Float) → m < 2 ^ 14
+clusters_are : (m : ℕ) (cluster : Bool) (ends : List (Option Float)) (h : Float) → m < 2 ^ 14
     → (cs : List ℕ) × (take (topology_of m cluster ends h).clusters.count (topology_of m cluster ends h).clusters.masks ≡ cs) × Partition m cs
 unfolding topology_of
 clusters_are m cluster ends h low =

@@ -1,4 +1,5 @@
 -- The places of marked edges in the edge table: within it, and no two of a site at one; and which of them have a point. Assumes nothing.
+use Rattle.std.specs.Prelude.{Option, None, Some}
 use mathlib.Core.Path.{◌≡◌, refl, ap, sym, ◌∙◌}
 use mathlib.Core.Logic.{⊎_elim}
 use mathlib.Core.Bool.{Bool, true, ◌&&◌, false≢true}
@@ -7,7 +8,6 @@ use Prim.Native.Nat.{ℕ, zero, suc, ◌+◌, ◌*◌, ◌-◌, ◌<◌, ◌≤�
 use native.Mathlib.Omega.{arith}
 use borrow.Author.Tests.{lt-ltb, le-ltb}
 use Rattle.lattice.specs.declared.Sides.{Sides}
-use Rattle.lattice.specs.declared.OtherEnd.{OtherEnd}
 use lib.Ieee.{Float}
 use Rattle.stages.specs.Boxes.{owned, reach}
 use Rattle.stages.specs.Samples.{box_of, point_by}
@@ -23,7 +23,6 @@ use Rattle.laws.proofs.Bools.{T_true, bit_T}
 use Rattle.laws.proofs.Ranges.{lt-or}
 use Rattle.lattice.proofs.Sites.{product_le, site_uvw}
 use Rattle.lattice.proofs.OtherEnds.{above-number, across-joined}
-use Rattle.lattice.specs.declared.OtherEnd.TheVariants as end
 
 -- ---- how far an edge reaches
 
@@ -49,7 +48,7 @@ unfolding owned
 owned_high n s e h = rw (le-ltb e 7 h)
 
 -- the owner of an edge from 7 on lies below by the edge's reach
-pub below-reach : (n : Sides) (s e t : ℕ) → SidesFit n → s < sites n → 7 ≤ e → across_of n s e ≡ end.At t → s ≡ t + reach n (e - 7)
+pub below-reach : (n : Sides) (s e t : ℕ) → SidesFit n → s < sites n → 7 ≤ e → across_of n s e ≡ Some t → s ≡ t + reach n (e - 7)
 unfolding reach
 below-reach n s e t f hs h a =
     sym (site_uvw n s) ∙ above-number n (uvw_of n t) (uvw_of n s) (corner_of (e - 7)) ((across-joined n s e t f hs a).falls h)
@@ -58,9 +57,9 @@ below-reach n s e t f hs h a =
 -- a marked edge leads to a site of the box
 pub record Leads (n : Sides) (s e : ℕ) : Type 0 where
   pub to : ℕ
-  pub is : across_of n s e ≡ end.At to
+  pub is : across_of n s e ≡ Some to
 
-no_marks : (S : List Float) (h : Float) (s e : ℕ) → marked_by S h s e end.Missing ≡ true → ⊥
+no_marks : (S : List Float) (h : Float) (s e : ℕ) → marked_by S h s e None ≡ true → ⊥
 unfolding marked_by
 no_marks S h s e m = false≢true m
 
@@ -69,9 +68,9 @@ module _ (n : Sides) (S : List Float) (h : Float) where
   unfolding marked
   mark_leads s e m = go (across_of n s e) refl
     where
-      go : (o : OtherEnd) → across_of n s e ≡ o → Leads n s e
-      go end.Missing a = absurd (no_marks S h s e (sym (ap (marked_by S h s e) a) ∙ m))
-      go (end.At t) a = record { to = t; is = a }
+      go : (o : Option ℕ) → across_of n s e ≡ o → Leads n s e
+      go None a = absurd (no_marks S h s e (sym (ap (marked_by S h s e) a) ∙ m))
+      go (Some t) a = record { to = t; is = a }
 
   pub set-marked : (s e : ℕ) → mark_at n S h s e ≡ true → marked n S h s e ≡ true
   unfolding bit
@@ -113,6 +112,6 @@ module _ (n : Sides) (S : List Float) (h : Float) where
     }
 
     -- A MARKED EDGE HAS A POINT WHERE BOTH ITS ENDS ARE FINITE
-    pub point-is : (cluster : Bool) (s e t : ℕ) → across_of n s e ≡ end.At t → (box_of n S h cluster).point s e ≡ finite (sample S s) && finite (sample S t)
+    pub point-is : (cluster : Bool) (s e t : ℕ) → across_of n s e ≡ Some t → (box_of n S h cluster).point s e ≡ finite (sample S s) && finite (sample S t)
     unfolding box_of point_by
     point-is cluster s e t a = ap (point_by S s) a

@@ -1,36 +1,30 @@
 -- The box of a build, made of its samples: marks, clusters and points. Assumes nothing.
-use Rattle.std.specs.Prelude.{◌≡◌, Bool, true, false, ◌&&◌, not, List, [], ◌∷◌, ◌++◌, map, ℕ, ◌/◌, ◌%◌, ◌<◌, T, eqb, take, Float}
+use Rattle.std.specs.Prelude.{◌≡◌, Bool, true, false, ◌&&◌, not, List, [], ◌∷◌, ◌++◌, map, ℕ, ◌/◌, ◌%◌, ◌<◌, T, eqb, take, Float, Option, None, Some}
 use Rattle.std.specs.Float.{binary64}
 use Rattle.std.specs.Float.Ieee.{fits}
 use Rattle.laws.specs.Bools.{bit}
 use Rattle.laws.specs.Ranges.{each, sum}
 use Rattle.laws.specs.Lists.{keep}
 use Rattle.laws.specs.Digits.{is_set}
-use Rattle.samples.specs.declared.Sample.{Sample}
-use Rattle.samples.specs.declared.Sample.TheVariants as at
 use Rattle.samples.specs.Sides.{inside, finite}
 use Rattle.lattice.specs.declared.Sides.{Sides}
-use Rattle.lattice.specs.declared.OtherEnd.{OtherEnd}
-use Rattle.lattice.specs.declared.OtherEnd.TheVariants as end
 use Rattle.lattice.specs.Sites.{sites, uvw_of, ijk_of}
 use Rattle.lattice.specs.Across.{across_of}
 use Rattle.marks.specs.Marks.{sample, mask_at, is_crossed}
 use Rattle.topology.specs.Topology.{topology_of, case_number}
 use Rattle.points.specs.declared.Frame.{Frame}
 use Rattle.points.specs.declared.Point.{Point}
-use Rattle.points.specs.declared.EdgePoint.{EdgePoint}
-use Rattle.points.specs.declared.EdgePoint.TheVariants as on
 use Rattle.points.specs.EdgePoints.{edge_point}
 use Rattle.points.specs.Means.{mean_of}
 use Rattle.stages.specs.Boxes.{Box}
 use Rattle.stages.specs.Meshes.{numbers}
 
 -- the sample at the other end of an edge, where there is one
-unfoldable pub end_by : List Float → OtherEnd → Sample
-end_by S end.Missing = at.Missing
-end_by S (end.At t) = at.Value (sample S t)
+unfoldable pub end_by : List Float → Option ℕ → Option Float
+end_by S None = None
+end_by S (Some t) = Some (sample S t)
 
-unfoldable pub ends_of : Sides → List Float → ℕ → List Sample
+unfoldable pub ends_of : Sides → List Float → ℕ → List (Option Float)
 ends_of n S s = each 14 (λ e. end_by S (across_of n s e) ∷ [])
 
 -- the edges of a mask, ascending
@@ -56,9 +50,9 @@ case_count n S h cluster k j = sum k (λ s. bit (is_case n S h cluster j s))
 -- ---- the box
 
 -- an edge has a point where both its samples are finite
-unfoldable pub point_by : List Float → ℕ → OtherEnd → Bool
-point_by S s end.Missing = false
-point_by S s (end.At t) = finite (sample S s) && finite (sample S t)
+unfoldable pub point_by : List Float → ℕ → Option ℕ → Bool
+point_by S s None = false
+point_by S s (Some t) = finite (sample S s) && finite (sample S t)
 
 unfoldable pub box_of : Sides → List Float → Float → Bool → Box
 box_of n S h cluster = record {
@@ -83,14 +77,14 @@ AllDouble S = (s : ℕ) → T (fits binary64 (sample S s))
 
 -- ---- positions
 
-unfoldable pub place_of : Frame → Sides → List Float → ℕ → OtherEnd → EdgePoint
-place_of f n S s end.Missing = on.Missing
-place_of f n S s (end.At t) =
+unfoldable pub place_of : Frame → Sides → List Float → ℕ → Option ℕ → Option Point
+place_of f n S s None = None
+place_of f n S s (Some t) =
     edge_point f (ijk_of (uvw_of n s).u (uvw_of n s).v (uvw_of n s).w) (ijk_of (uvw_of n t).u (uvw_of n t).v (uvw_of n t).w) (sample S s) (sample S t)
 
-abbrev pub listed : EdgePoint → List Point
-listed on.Missing = []
-listed (on.At p) = p ∷ []
+abbrev pub listed : Option Point → List Point
+listed None = []
+listed (Some p) = p ∷ []
 
 -- the points of a site's edges, in order, and the three coordinates of their mean
 unfoldable pub points_of : Frame → Sides → List Float → ℕ → List ℕ → List Point

@@ -2,7 +2,7 @@
 // that programs print. What fails is said on standard error.
 #![tactic(auto)]
 
-ghost use Rattle.std.specs.Prelude.{◌≤◌, length, IfOk};
+ghost use Rattle.std.specs.Prelude.{◌≤◌, length, IfOk, IfSome};
 ghost use Rattle.streams.specs.Counts.{IsPrefixLen};
 
 use std::env::{Env, FillError};
@@ -13,15 +13,13 @@ use std::io::Read;
 // Where the input comes from.
 #[derive(Drop)]
 pub enum Source {
-    Nowhere,
     Stdin,
     Named(File),
 }
 
-// How many bytes of a source were put at the front of a buffer, and whether that went well.
+// How many bytes of a source were put at the front of a buffer.
 #[derive(Drop)]
 pub struct Taken {
-    pub ok: bool,
     pub length: usize,
     pub from: Source,
 }
@@ -42,36 +40,28 @@ fn take_some(rt: &HostRuntime, from: &mut Source, part: &mut [u8]) -> io::Result
     ensures { IfOk result (λ n. n ≤ length part.new) }
 {
     match from {
-        Source::Nowhere => Ok(0),
         Source::Stdin => rt.stdin().read(part),
         Source::Named(file) => file.read(part),
     }
 }
 
-// The bytes of a source, to its end or until there is no room.
-fn take_all(rt: &HostRuntime, mut from: Source, space: &mut [u8]) -> Taken
-    ensures { IsPrefixLen result.length space.new }
+// The bytes of a source, to its end or until there is no room. None where a read failed.
+fn take_all(rt: &HostRuntime, mut from: Source, space: &mut [u8]) -> Option<Taken>
+    ensures { IfSome result (λ taken. IsPrefixLen taken.length space.new) }
 {
     let mut at = 0usize;
+    // No `for`: each turn moves on by as many bytes as a read gave.
     while at < space.len() {
         match take_some(rt, &mut from, &mut space[at..]) {
             Ok(0) => break,
             Ok(n) => at += n,
             Err(error) => {
                 fail(rt, b"the input", error);
-                return Taken {
-                    ok: false,
-                    length: at,
-                    from,
-                };
+                return None;
             }
         }
     }
-    Taken {
-        ok: true,
-        length: at,
-        from,
-    }
+    Some(Taken { length: at, from })
 }
 
 // The file of that name, open. A name is UTF-8 text.
@@ -112,19 +102,12 @@ fn open(rt: &HostRuntime, usage: &[u8], i: usize) -> Option<Source> {
     open_named(rt, i)
 }
 
-// The program's input, at the front of `space`: the file that argument i names, if there is one, else standard input. Where it is longer, its first bytes. Not
-// ok where it could not be read: then no answer about it is to be given.
-pub fn read(rt: &HostRuntime, usage: &[u8], i: usize, space: &mut [u8]) -> Taken
-    ensures { IsPrefixLen result.length space.new }
+// The program's input, at the front of `space`: the file that argument i names, if there is one, else standard input. Where it is longer, its first bytes. None
+// where it could not be read, which was said: then no answer about it is to be given.
+pub fn read(rt: &HostRuntime, usage: &[u8], i: usize, space: &mut [u8]) -> Option<Taken>
+    ensures { IfSome result (λ taken. IsPrefixLen taken.length space.new) }
 {
-    match open(rt, usage, i) {
-        Some(from) => take_all(rt, from, space),
-        None => Taken {
-            ok: false,
-            length: 0,
-            from: Source::Nowhere,
-        },
-    }
+    take_all(rt, open(rt, usage, i)?, space)
 }
 
 // The program's answer, written in one go.
@@ -153,12 +136,10 @@ pub fn mask_word(rt: &impl Print, m: u16) -> io::Result<()> {
     print!(rt; " {m:04x}")
 }
 
-// The first `count` of the masks.
+// The first `count` of the masks; all of them where there are fewer.
 pub fn mask_words(rt: &impl Print, count: usize, masks: [u16; 14]) -> io::Result<()> {
-    for i in 0..14 {
-        if i < count {
-            mask_word(rt, masks[i])?;
-        }
+    for m in masks.iter().take(count) {
+        mask_word(rt, *m)?;
     }
     Ok(())
 }

@@ -1,13 +1,12 @@
 // Prints the tables, and the owners of sample pairs of places, as the oracle prints those of the Rust.
 #![tactic(auto)]
 
-ghost use Rattle.std.specs.Prelude.{◌<◌, ◌≤◌};
-ghost use Rattle.tables_main.specs.Lines.{lines_in};
+ghost use Rattle.std.specs.Prelude.{◌<◌};
 
-use lattice::{EdgeOwner, Ijk};
+use lattice::Ijk;
 use std::io;
 
-// A mask after a blank, by its four hex digits.
+// A mask after a blank, by its four hex digits. streams has the same; this program prints tables alone, and does not stand on it.
 fn mask(rt: &impl Print, m: u16) -> io::Result<()> {
     print!(rt; " {m:04x}")
 }
@@ -104,63 +103,27 @@ fn case_line(rt: &impl Print, c: usize) -> io::Result<()>
     println!(rt)
 }
 
-// The tables with a line for each entry.
-#[derive(Clone, Copy)]
-enum Table {
-    Deltas,
-    Reverses,
-    Neighbours,
-    FlatHoles,
-    TetEdges,
-    TetPairs,
-    Cases,
-}
-
-fn line(rt: &impl Print, t: Table, i: usize) -> io::Result<()>
-    requires { i < lines_in t }
-{
-    match t {
-        Table::Deltas => delta_line(rt, i),
-        Table::Reverses => reverse_line(rt, i),
-        Table::Neighbours => neighbour_line(rt, i),
-        Table::FlatHoles => flat_hole_line(rt, i),
-        Table::TetEdges => tet_line(rt, i),
-        Table::TetPairs => pair_line(rt, i),
-        Table::Cases => case_line(rt, i),
-    }
-}
-
-// The first n lines of a table.
-fn lines(rt: &impl Print, t: Table, n: usize) -> io::Result<()>
-    requires { n ≤ lines_in t }
-{
-    for i in 0..n {
-        line(rt, t, i)?;
-    }
-    Ok(())
-}
-
 fn all_tables(rt: &impl Print) -> io::Result<()> {
-    lines(rt, Table::Deltas, 14)?;
+    (0..14).try_for_each(|e| delta_line(rt, e))?;
     axes(rt)?;
-    lines(rt, Table::Reverses, 14)?;
-    lines(rt, Table::Neighbours, 14)?;
-    lines(rt, Table::FlatHoles, 36)?;
+    (0..14).try_for_each(|e| reverse_line(rt, e))?;
+    (0..14).try_for_each(|e| neighbour_line(rt, e))?;
+    (0..36).try_for_each(|i| flat_hole_line(rt, i))?;
     all_mask(rt)?;
-    lines(rt, Table::TetEdges, 6)?;
-    lines(rt, Table::TetPairs, 6)?;
-    lines(rt, Table::Cases, 16)
+    (0..6).try_for_each(|t| tet_line(rt, t))?;
+    (0..6).try_for_each(|e| pair_line(rt, e))?;
+    (0..16).try_for_each(|c| case_line(rt, c))
 }
 
 // The label, and which of the two is the owner.
 fn owner(rt: &impl Print, u: Ijk, v: Ijk) -> io::Result<()> {
     match lattice::get_edge_owner(u, v) {
-        EdgeOwner::NoEdge => println!(rt; "owner none"),
-        EdgeOwner::Owned(first, _, label) => {
-            print!(rt; "owner {label}")?;
-            if first.i == u.i {
+        None => println!(rt; "owner none"),
+        Some(edge) => {
+            print!(rt; "owner {}", edge.label)?;
+            if edge.owner.i == u.i {
                 println!(rt; " first")
-            } else if first.i == v.i {
+            } else if edge.owner.i == v.i {
                 println!(rt; " second")
             } else {
                 Ok(())

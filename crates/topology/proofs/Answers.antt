@@ -1,4 +1,5 @@
 -- What the answers of the topology test are: the clusters are a partition of the mask, at most fourteen; what they depend on; and there is one answer. Assumes nothing.
+use Rattle.std.specs.Prelude.{Option}
 use Rattle.std.proofs.Common.{◌≡◌, ℕ, zero, suc, ◌+◌, ◌^◌, ◌<◌, ◌≤◌, Bool, true, false, cond, ◌&&◌, List, [], ◌∷◌, ◌++◌, length, sym, refl, ap, ◌∙◌, subst, ap₂, ⊎_elim, add-zero, add-suc, suc-add, zero-add, arith}
 use lib.Ieee.{Float}
 use Rattle.laws.specs.Lists.{All, total}
@@ -8,7 +9,6 @@ use Rattle.laws.proofs.Lists.{all_map, total-append}
 use Rattle.laws.proofs.Ranges.{lt-or, eq-or, each_first, each_same, each_all, any_same}
 use Rattle.laws.proofs.Digits.{digit-or-not, digit-pow-same, digit-pow_other, digit_high, low-pow}
 use Rattle.tables.specs.FlatHoles.{flat_hole}
-use Rattle.samples.specs.declared.Sample.{Sample}
 use Rattle.topology.specs.declared.TopologyCase.{TopologyCase}
 use Rattle.topology.specs.declared.TopologyCase.TheVariants.{ClosedSurface, MultiHole, FlatHole, MultiSurface, SimpleSurface, DoNotCluster}
 use Rattle.topology.specs.Parts.{low, Component, Ascending, Parts, Partition}
@@ -125,7 +125,7 @@ clusters_by MultiSurface m h = (components_partition m h, components-le m)
 clusters_by SimpleSurface m h = (components_partition m h, components-le m)
 clusters_by DoNotCluster m h = (singles_partition m h, singles-le m)
 
-module _ (near : ℕ) (cluster : Bool) (ends : List Sample) (h : Float) where
+module _ (near : ℕ) (cluster : Bool) (ends : List (Option Float)) (h : Float) where
   -- the clusters of the answer
   abbrev pub clusters : List ℕ
   clusters = clusters_in (case_of near cluster ends h) (fourteen near)
@@ -140,7 +140,7 @@ module _ (near : ℕ) (cluster : Bool) (ends : List Sample) (h : Float) where
 -- ---- what the answer depends on
 
 -- the fourteen low bits of the mask
-pub depends_low : (a b : ℕ) (cluster : Bool) (ends : List Sample) (h : Float) → fourteen a ≡ fourteen b → topology_of a cluster ends h ≡ topology_of b cluster ends h
+pub depends_low : (a b : ℕ) (cluster : Bool) (ends : List (Option Float)) (h : Float) → fourteen a ≡ fourteen b → topology_of a cluster ends h ≡ topology_of b cluster ends h
 unfolding topology_of case_of visits_of
 depends_low a b cluster ends h e =
     ap (λ (m : ℕ). result (case_by (kind_of m) cluster (is_flat m ends h)) (clusters_in (case_by (kind_of m) cluster (is_flat m ends h)) m) (cond cluster (total visits (walks_of (kind_of m) m)) 0)) e
@@ -157,7 +157,7 @@ unasked holes false f g e = refl
 unasked single true f g e = let z : ◌≡◌ {A = Bool} true false = e in absurd (let n : ◌≡◌ {A = ℕ} 0 1 = cc in omega arith)
 unasked single false f g e = refl
 
-pub depends_ends : (near : ℕ) (cluster : Bool) (ends ends' : List Sample) (h h' : Float) → asks_ends near cluster ≡ false
+pub depends_ends : (near : ℕ) (cluster : Bool) (ends ends' : List (Option Float)) (h h' : Float) → asks_ends near cluster ≡ false
     → topology_of near cluster ends h ≡ topology_of near cluster ends' h'
 unfolding topology_of case_of asks_ends
 depends_ends near cluster ends ends' h h' e =
@@ -165,13 +165,13 @@ depends_ends near cluster ends ends' h h' e =
     (unasked (kind_of (fourteen near)) cluster (is_flat (fourteen near) ends h) (is_flat (fourteen near) ends' h') e)
 
 -- and of these only the fourteen, where they are finite
-flat-ends : (m : ℕ) (ends ends' : List Sample) (h : Float) → ((e : ℕ) → e < 14 → end_at ends e ≡ end_at ends' e) → is_flat m ends h ≡ is_flat m ends' h
+flat-ends : (m : ℕ) (ends ends' : List (Option Float)) (h : Float) → ((e : ℕ) → e < 14 → end_at ends e ≡ end_at ends' e) → is_flat m ends h ≡ is_flat m ends' h
 unfolding is_flat row_flat pairs_collapse
 flat-ends m ends ends' h same =
     any_same 36 (λ i. row_flat m ends h (flat_hole i)) (λ i. row_flat m ends' h (flat_hole i))
     (λ i l. let e = row-edges i l in rw (same (off i).first e.0.0, same (off i).second e.0.1, same (on i).first e.1.0, same (on i).second e.1.1))
 
-pub depends_fourteen : (near : ℕ) (cluster : Bool) (ends ends' : List Sample) (h : Float) → ((e : ℕ) → e < 14 → end_at ends e ≡ end_at ends' e)
+pub depends_fourteen : (near : ℕ) (cluster : Bool) (ends ends' : List (Option Float)) (h : Float) → ((e : ℕ) → e < 14 → end_at ends e ≡ end_at ends' e)
     → topology_of near cluster ends h ≡ topology_of near cluster ends' h
 unfolding topology_of case_of
 depends_fourteen near cluster ends ends' h same = rw (flat-ends (fourteen near) ends ends' h same)

@@ -1,10 +1,10 @@
 -- The answer of the topology test by the way that its tests went. Assumes nothing.
+use Rattle.std.specs.Prelude.{Option}
 use Rattle.std.proofs.Common.{◌≡◌, ℕ, zero, suc, ◌+◌, ◌^◌, ◌<◌, ◌≤◌, Bool, true, false, cond, not, eqb, ltb, List, [], ◌∷◌, length, sym, refl, ap, ◌∙◌, subst, ap₂, arith, le-ltb, lt-ltb, eq-eqb, ne_eqb}
 use lib.Ieee.{Float}
 use lib.Bits.{and_mask, mask_lt}
 use Rattle.laws.specs.Lists.{total}
 use Rattle.laws.proofs.Digits.{digit_ext, digit_lt}
-use Rattle.samples.specs.declared.Sample.{Sample}
 use Rattle.topology.specs.declared.TopologyCase.TheVariants.{ClosedSurface, MultiHole, FlatHole, MultiSurface, SimpleSurface, DoNotCluster}
 use Rattle.topology.specs.declared.TopologyCase.{TopologyCase}
 use Rattle.topology.specs.Parts.{low, Parts}
@@ -77,7 +77,7 @@ module _ (m : ℕ) where
 
 -- ---- the answers
 
-module _ (near : ℕ) (cluster : Bool) (ends : List Sample) (h : Float) where
+module _ (near : ℕ) (cluster : Bool) (ends : List (Option Float)) (h : Float) where
   -- by the kind, whether to cluster, and whether the hole is flat: the case, and the masks that were walked
   by_kind : (k : Kind) (b f : Bool) → kind_of (fourteen near) ≡ k → cluster ≡ b → is_flat (fourteen near) ends h ≡ f
       → topology_of near cluster ends h ≡ result (case_by k b f) (clusters_in (case_by k b f) (fourteen near)) (cond b (total visits (walks_of k (fourteen near))) 0)

@@ -1,4 +1,5 @@
 -- A mask is flat by the rows of the table exactly where the surface collapses in the paper's words (`flat_collapse`, `collapse_flat`). Assumes nothing.
+use Rattle.std.specs.Prelude.{Option, None, Some}
 use Rattle.std.proofs.Common.{◌≡◌, ℕ, ◌+◌, ◌^◌, ◌<◌, Bool, true, false, cond, ◌&&◌, ◌||◌, T, eqb, ltb, List, [], ◌∷◌, length, get_or, refl, ap, ◌∙◌, subst, ap₂, ⊎_elim, arith, eqb→eq, ltb→lt, ltb-true, lt-ltb, ne_eqb, eqb-true}
 use mathlib.Core.Bool.{false≢true}
 use lib.Ieee.{Float}
@@ -14,8 +15,6 @@ use Rattle.tables.specs.declared.FlatHole.{FlatHole}
 use Rattle.tables.specs.Edges.{are_neighbours}
 use Rattle.tables.specs.FlatHoles.{hole_of, flat_holes, flat_hole}
 use Rattle.tables.proofs.FlatHoles.{flat_36}
-use Rattle.samples.specs.declared.Sample.{Sample}
-use Rattle.samples.specs.declared.Sample.TheVariants.{Missing, Value}
 use Rattle.topology.specs.Walk.{low_bit}
 use Rattle.topology.specs.Flat.{two_edges, collapses, collapses_at, end_at, pairs_collapse, row_flat, is_flat, Collapse}
 use Rattle.topology.proofs.Rows.{off, on, row-edges, both-on, four}
@@ -37,25 +36,25 @@ unfolding row_ok all flat_hole flat_holes hole_of are_neighbours bit count_trail
 row_ok_lem i h = all-at 36 row_ok tt i h
 
 -- all four samples are there
-pub record Known (sa sb sc sd : Sample) (h : Float) : Type 0 where
+pub record Known (sa sb sc sd : Option Float) (h : Float) : Type 0 where
   pub va : Float
   pub vb : Float
   pub vc : Float
   pub vd : Float
-  pub is_a : sa ≡ Value va
-  pub is_b : sb ≡ Value vb
-  pub is_c : sc ≡ Value vc
-  pub is_d : sd ≡ Value vd
+  pub is_a : sa ≡ Some va
+  pub is_b : sb ≡ Some vb
+  pub is_c : sc ≡ Some vc
+  pub is_d : sd ≡ Some vd
   pub falls : collapses va vb vc vd h ≡ true
 
-known : (sa sb sc sd : Sample) (h : Float) → collapses_at sa sb sc sd h ≡ true → Known sa sb sc sd h
+known : (sa sb sc sd : Option Float) (h : Float) → collapses_at sa sb sc sd h ≡ true → Known sa sb sc sd h
 unfolding collapses_at
-known (Value a) (Value b) (Value c) (Value d) h e =
+known (Some a) (Some b) (Some c) (Some d) h e =
     record { va = a; vb = b; vc = c; vd = d; is_a = refl; is_b = refl; is_c = refl; is_d = refl; falls = e }
-known Missing b c d h e = absurd (false≢true e)
-known (Value a) Missing c d h e = absurd (false≢true e)
-known (Value a) (Value b) Missing d h e = absurd (false≢true e)
-known (Value a) (Value b) (Value c) Missing h e = absurd (false≢true e)
+known None b c d h e = absurd (false≢true e)
+known (Some a) None c d h e = absurd (false≢true e)
+known (Some a) (Some b) None d h e = absurd (false≢true e)
+known (Some a) (Some b) (Some c) None h e = absurd (false≢true e)
 
 unset : (m x e : ℕ) → bit_and m x ≡ 0 → digit x e ≡ 1 → digit m e ≡ 0
 unset m x e z s = omega (arith, digit_and m x e, ap (λ (y : ℕ). digit y e) z, digit-zero e, digit_lt m e)
@@ -63,7 +62,7 @@ unset m x e z s = omega (arith, digit_and m x e, ap (λ (y : ℕ). digit y e) z,
 both-set : (m x e : ℕ) → bit_and m x ≡ x → digit x e ≡ 1 → digit m e ≡ 1
 both-set m x e z s = omega (arith, digit_and m x e, ap (λ (y : ℕ). digit y e) z, digit_lt m e)
 
-module _ (m : ℕ) (ends : List Sample) (h : Float) where
+module _ (m : ℕ) (ends : List (Option Float)) (h : Float) where
   row_collapse : (i : ℕ) → i < 36 → row_flat m ends h (flat_hole i) ≡ true → Collapse m ends h
   unfolding row_flat pairs_collapse row_ok
   row_collapse i l t =
@@ -181,7 +180,7 @@ unfolding all
 pair_lt a b ha hb l =
     ltb→lt _ _ (when (ltb a b) (ltb (2 ^ a + 2 ^ b) (2 ^ 14)) (lt-ltb a b l) (all_at2 14 14 (λ a b. cond (ltb a b) (ltb (2 ^ a + 2 ^ b) (2 ^ 14)) true) tt a b ha hb))
 
-pub collapse_flat : (m : ℕ) (ends : List Sample) (h : Float) → Collapse m ends h → is_flat m ends h ≡ true
+pub collapse_flat : (m : ℕ) (ends : List (Option Float)) (h : Float) → Collapse m ends h → is_flat m ends h ≡ true
 unfolding is_flat pair_ok_lem opposite_c opposite_d hole_of collapses_at
 collapse_flat m ends h k =
     let a = k.a in
@@ -204,7 +203,7 @@ collapse_flat m ends h k =
     let row = row_of a b k.a_b.0 hb k.a_b.2 in
     let flat : row_flat m ends h (hole_of a b) ≡ true =
     both-on m ends h (hole_of a b) (none_in m (2 ^ a + 2 ^ b) a b pl edges k.far.0 k.far.1) (all_in m (opposite a b) c d ol opp k.near.0 k.near.1)
-    ∙ four ends h (two_edges (2 ^ a + 2 ^ b)) (two_edges (opposite a b)) (Value k.va) (Value k.vb) (Value k.vc) (Value k.vd)
+    ∙ four ends h (two_edges (2 ^ a + 2 ^ b)) (two_edges (opposite a b)) (Some k.va) (Some k.vb) (Some k.vc) (Some k.vd)
     (ap (end_at ends) ne.0 ∙ k.at_a) (ap (end_at ends) ne.1 ∙ k.at_b)
     (ap (end_at ends) no.0 ∙ k.at_c) (ap (end_at ends) no.1 ∙ k.at_d)
     ∙ k.falls in

@@ -1,4 +1,5 @@
 -- The rows of the flat-hole table: their edges, the loop over them, and one row by the tests on the way. Assumes nothing.
+use Rattle.std.specs.Prelude.{Option}
 use Rattle.std.proofs.Common.{◌≡◌, ℕ, ◌+◌, ◌<◌, ◌≤◌, Bool, true, false, ◌&&◌, ◌||◌, T, ltb, List, sym, refl, ap, ◌∙◌, ap₂, arith, ltb→lt, eq-eqb, ne_eqb}
 use lib.Ieee.{Float}
 use lib.Bits.{bit_and}
@@ -10,7 +11,6 @@ use Rattle.laws.proofs.Ranges.{all-at, any-more, any_some}
 use Rattle.tables.specs.declared.FlatHole.{FlatHole}
 use Rattle.tables.specs.Edges.{are_neighbours}
 use Rattle.tables.specs.FlatHoles.{hole_of, flat_holes, flat_hole}
-use Rattle.samples.specs.declared.Sample.{Sample}
 use Rattle.topology.specs.declared.TwoEdges.{TwoEdges}
 use Rattle.topology.specs.Walk.{low_bit}
 use Rattle.topology.specs.Flat.{two_edges, collapses_at, end_at, pairs_collapse, row_flat, is_flat}
@@ -40,14 +40,14 @@ edges-lt i l o n eo en = let e = row-edges i l in rw (eo, en) (e.0.0, e.0.1, e.1
 
 -- ---- the four samples of a row
 
-pub four : (ends : List Sample) (h : Float) (o n : TwoEdges) (a b c d : Sample) → end_at ends o.first ≡ a → end_at ends o.second ≡ b
+pub four : (ends : List (Option Float)) (h : Float) (o n : TwoEdges) (a b c d : Option Float) → end_at ends o.first ≡ a → end_at ends o.second ≡ b
     → end_at ends n.first ≡ c → end_at ends n.second ≡ d → pairs_collapse ends h o n ≡ collapses_at a b c d h
 unfolding pairs_collapse
 four ends h o n a b c d ea eb ec ed = rw (ea, eb, ec, ed)
 
 -- ---- the loop: no row so far is flat
 
-module _ (m : ℕ) (ends : List Sample) (h : Float) where
+module _ (m : ℕ) (ends : List (Option Float)) (h : Float) where
   abbrev pub NoneSo : ℕ → Type 0
   NoneSo i = (i ≤ 36) × (any i (λ j. row_flat m ends h (flat_hole j)) ≡ false)
 
@@ -80,3 +80,27 @@ module _ (m : ℕ) (ends : List Sample) (h : Float) where
     pub both-on : bit_and m r.edges ≡ 0 → bit_and m r.opposite ≡ r.opposite → row_flat m ends h r ≡ pairs_collapse ends h (two_edges r.edges) (two_edges r.opposite)
     unfolding row_flat
     both-on p q = rw (eq-eqb _ _ p, eq-eqb _ _ q)
+
+  -- ---- row i as the code reads it: its two masks are w and v, and o and n are their edges
+
+  module _ (i : ℕ) (l : i < 36) (so : NoneSo i) (w v : ℕ) (ew : w ≡ (flat_hole i).edges) (ev : v ≡ (flat_hole i).opposite) where
+    pub pass_edges : (bit_and m w ≡ 0 → ⊥) → NoneSo (i + 1)
+    pass_edges x = row_skip i l so (no_edges (flat_hole i) (λ e. x (ap (bit_and m) ew ∙ e)))
+
+    pub pass_opposite : bit_and m w ≡ 0 → (bit_and m v ≡ v → ⊥) → NoneSo (i + 1)
+    pass_opposite p x = row_skip i l so (no_opposite (flat_hole i) (ap (bit_and m) (sym ew) ∙ p) (λ e. x (ap (bit_and m) ev ∙ e ∙ sym ev)))
+
+    module _ (o n : TwoEdges) (eo : o ≡ two_edges w) (en : n ≡ two_edges v) where
+      pub pair-fits : (o.first < 14) × (o.second < 14) × (n.first < 14) × (n.second < 14)
+      pair-fits = edges-lt i l o n (eo ∙ ap two_edges ew) (en ∙ ap two_edges ev)
+
+      module _ (p : bit_and m w ≡ 0) (q : bit_and m v ≡ v) (r : Bool) (er : r ≡ pairs_collapse ends h o n) where
+        row-told : row_flat m ends h (flat_hole i) ≡ r
+        row-told = both-on (flat_hole i) (ap (bit_and m) (sym ew) ∙ p) (ap (bit_and m) (sym ev) ∙ q ∙ ev)
+            ∙ sym (ap₂ (pairs_collapse ends h) (eo ∙ ap two_edges ew) (en ∙ ap two_edges ev)) ∙ sym er
+
+        pub row-flat : r ≡ true → true ≡ is_flat m ends h
+        row-flat t = row_hit i l (row-told ∙ t)
+
+        pub pass-pair : r ≡ false → NoneSo (i + 1)
+        pass-pair f = row_skip i l so (row-told ∙ f)

@@ -1,10 +1,10 @@
 -- What the topology test visits: the ones of the masks that it walks, at most fourteen for every mask, ends and threshold. Assumes nothing.
+use Rattle.std.specs.Prelude.{Option}
 use Rattle.std.proofs.Common.{◌≡◌, ℕ, ◌^◌, ◌<◌, ◌≤◌, Bool, true, false, cond, ◌⊎◌, List, [], ◌∷◌, sym, refl, ap, ◌∙◌, subst, inl, inr, arith}
 use lib.Count.{ones_in}
 use lib.Ieee.{Float}
 use Rattle.laws.specs.Lists.{total}
 use Rattle.laws.proofs.Digits.{ones_le}
-use Rattle.samples.specs.declared.Sample.{Sample}
 use Rattle.topology.specs.Walk.{fourteen, visits}
 use Rattle.topology.specs.Topology.{others, Kind, empty, closed, surfaces, holes, single, kind_of, walks_of, visits_of, topology_of}
 use Rattle.topology.proofs.Visits.{visits_ones}
@@ -30,7 +30,7 @@ by_most surfaces m h = omega (arith, ones_le 14 m)
 by_most holes m h = omega (arith, both m h)
 by_most single m h = omega (arith, both m h)
 
-module _ (near : ℕ) (cluster : Bool) (ends : List Sample) (h : Float) where
+module _ (near : ℕ) (cluster : Bool) (ends : List (Option Float)) (h : Float) where
   -- by the masks that are walked
   pub total-is : (topology_of near cluster ends h).visits ≡ cond cluster (total (ones_in 14) (walks_of (kind_of (fourteen near)) (fourteen near))) 0
   unfolding topology_of visits_of

@@ -1,10 +1,9 @@
 -- The six cases of the paper, and which of a site's near intersections share a vertex. Assumes nothing.
-use Rattle.std.specs.Prelude.{ℕ, ◌-◌, ◌^◌, Bool, true, false, cond, ◌&&◌, List, [], ◌∷◌, length, ◌==◌, bit_and, nat_lt, Float}
+use Rattle.std.specs.Prelude.{ℕ, ◌-◌, ◌^◌, Bool, true, false, cond, ◌&&◌, List, [], ◌∷◌, length, ◌==◌, bit_and, nat_lt, Float, Option}
 use Rattle.laws.specs.Lists.{total}
 use Rattle.laws.specs.Ranges.{each}
 use Rattle.laws.specs.Filling.{padded}
 use Rattle.laws.specs.Digits.{is_set}
-use Rattle.samples.specs.declared.Sample.{Sample}
 use Rattle.topology.specs.declared.Clusters.{Clusters}
 use Rattle.topology.specs.declared.TopologyCase.{TopologyCase}
 use Rattle.topology.specs.declared.TopologyCase.TheVariants.{ClosedSurface, MultiHole, FlatHole, MultiSurface, SimpleSurface, DoNotCluster}
@@ -76,14 +75,14 @@ result c cs v = record { case = c; clusters = clusters_of cs; visits = v }
 
 -- The answer, of a mask of near intersections, whether to cluster, the samples at the fourteen ends and the threshold.
 -- Its clusters are a partition of the mask (`clusters_partition` of proofs/Answers).
-unfoldable pub case_of : ℕ → Bool → List Sample → Float → TopologyCase
+unfoldable pub case_of : ℕ → Bool → List (Option Float) → Float → TopologyCase
 case_of near cluster ends h = case_by (kind_of (fourteen near)) cluster (is_flat (fourteen near) ends h)
 
 -- the edges that the walks of the test visit, together; where it is not to cluster, none is made
 unfoldable pub visits_of : ℕ → Bool → ℕ
 visits_of near cluster = cond cluster (total visits (walks_of (kind_of (fourteen near)) (fourteen near))) 0
 
-unfoldable pub topology_of : ℕ → Bool → List Sample → Float → TopologyResult
+unfoldable pub topology_of : ℕ → Bool → List (Option Float) → Float → TopologyResult
 topology_of near cluster ends h = result (case_of near cluster ends h) (clusters_in (case_of near cluster ends h) (fourteen near)) (visits_of near cluster)
 
 -- whether the samples at the ends are asked for: only where one surface with one hole is to be clustered

@@ -7,8 +7,7 @@ ghost use Rattle.topology.specs.Walk.{low_bit, visits, components_of};
 ghost use Rattle.topology.specs.Flat.{two_edges, collapses, pairs_collapse, is_flat};
 ghost use Rattle.topology.specs.Topology.{singles, clusters_of, topology_of, case_number};
 
-use samples::{Crossing, Sample};
-use tables::{ALL14_MASK, FLAT_HOLES};
+use tables::ALL14_MASK;
 
 #[derive(Clone, Copy)]
 pub enum TopologyCase {
@@ -35,7 +34,7 @@ pub struct TopologyResult {
     pub visits: usize,
 }
 
-// The case's place among the counts that are printed.
+// The case's place among the counts that are printed: written out, so that it is not the order above that the numbers hang on.
 pub fn case_number(case: TopologyCase) -> usize
     ensures { result ≡ case_number case }
 {
@@ -126,8 +125,8 @@ fn is_near(a: f64, b: f64, h: f64) -> bool
 {
     let c = samples::crossing_alpha(a, b, h);
     match c {
-        Crossing::SameSide => false,
-        Crossing::At(t) => t < 0.5,
+        None => false,
+        Some(t) => t < 0.5,
     }
 }
 
@@ -141,59 +140,45 @@ fn would_collapse(a: f64, b: f64, c: f64, d: f64, h: f64) -> bool
 }
 
 // The value at the end of an edge, where there is one and it is finite.
-fn endpoint_value(end: Sample) -> Sample
+fn endpoint_value(end: Option<f64>) -> Option<f64>
     ensures { result ≡ known end }
 {
-    match end {
-        Sample::Missing => Sample::Missing,
-        Sample::Value(v) => samples::finite_sample(v),
-    }
+    samples::finite_sample(end?)
 }
 
 // The same for the ends of edges with and without an intersection near the site: where one of the four is missing or not finite, they say nothing.
-fn pairs_collapse(ends: [Sample; 14], off: TwoEdges, on: TwoEdges, h: f64) -> bool
+fn pairs_collapse(ends: [Option<f64>; 14], off: TwoEdges, on: TwoEdges, h: f64) -> bool
     requires { (off.first < 14) × (off.second < 14) × (on.first < 14) × (on.second < 14) }
     ensures { result ≡ pairs_collapse ends h off on }
 {
-    let a = off.first;
-    let b = off.second;
-    let c = on.first;
-    let d = on.second;
-    let a_end = endpoint_value(ends[a]);
-    let b_end = endpoint_value(ends[b]);
-    let c_end = endpoint_value(ends[c]);
-    let d_end = endpoint_value(ends[d]);
-    let Sample::Value(a_val) = a_end else {
+    let Some(a) = endpoint_value(ends[off.first]) else {
         return false;
     };
-    let Sample::Value(b_val) = b_end else {
+    let Some(b) = endpoint_value(ends[off.second]) else {
         return false;
     };
-    let Sample::Value(c_val) = c_end else {
+    let Some(c) = endpoint_value(ends[on.first]) else {
         return false;
     };
-    let Sample::Value(d_val) = d_end else {
+    let Some(d) = endpoint_value(ends[on.second]) else {
         return false;
     };
-    would_collapse(a_val, b_val, c_val, d_val, h)
+    would_collapse(a, b, c, d, h)
 }
 
 // Whether a surface connected around the site, with near intersections on the edges of the mask, would be flattened.
-fn is_flat_hole(surface_comp: u16, ends: [Sample; 14], h: f64) -> bool
+fn is_flat_hole(surface_comp: u16, ends: [Option<f64>; 14], h: f64) -> bool
     ensures { result ≡ is_flat surface_comp ends h }
 {
     let rows = tables::flat_hole_rows();
-    let mut i: usize = 0;
-    'rows: while i < FLAT_HOLES {
-        let row = rows[i];
+    for row in &rows {
         let edge_mask = row[0];
         let opposite_mask = row[1];
-        i += 1;
         if surface_comp & edge_mask != 0 {
-            continue 'rows;
+            continue;
         }
         if surface_comp & opposite_mask != opposite_mask {
-            continue 'rows;
+            continue;
         }
         let off = two_edge_indices(edge_mask);
         let on = two_edge_indices(opposite_mask);
@@ -241,7 +226,12 @@ fn one_cluster(edge_mask: u16) -> Clusters
 
 // The case of a site and its clusters: the mask of its near intersections, whether to cluster, and the samples at the other ends
 // of its edges. One that is not finite counts as missing.
-pub fn test_topology(near_mask: u16, cluster: bool, ends: [Sample; 14], h: f64) -> TopologyResult
+pub fn test_topology(
+    near_mask: u16,
+    cluster: bool,
+    ends: [Option<f64>; 14],
+    h: f64,
+) -> TopologyResult
     ensures { result ≡ topology_of near_mask cluster ends h }
 {
     let m = near_mask & ALL14_MASK;

@@ -1,5 +1,6 @@
 -- A whole number less an i64 origin: what is small is given exactly, and no step overflows. Assumes nothing.
 use Rattle.std.proofs.Common.{◌≡◌, ℕ, ◌+◌, ◌-◌, ◌^◌, ◌<◌, ◌≤◌, Bool, true, false, cond, leb, ℤ, pos, ◌-ℤ◌, neg_ℤ, sym, refl, ap, ◌∙◌, ap₂, arith, w64, SFits, to_z, le-leb}
+use Rattle.std.specs.Prelude.{Option, Some, None}
 use mathlib.Core.Option.{some}
 use borrow.Author.Tests.{lt-leb}
 use lib.IntN.{+ℤ_idl}
@@ -9,20 +10,18 @@ use Rattle.laws.specs.Ints.{size_of, signed}
 use Rattle.laws.proofs.Ints.{nat, ◌⊞◌, neg, rep_eq}
 use Rattle.laws.proofs.Sizes.{size_neg, size_fits, rd, rd-small, below-zero, not-below}
 use Rattle.units.specs.Coordinates.{within, less, coordinate_of}
-use Rattle.units.specs.declared.Coordinate.{Coordinate}
-use Rattle.units.specs.declared.Coordinate.TheVariants.{Far, At}
 
 -- ---- the answer by the difference
 
 pub same_coordinate : (y o z q : ℤ) → y -ℤ o ≡ z -ℤ q → coordinate_of (some y) o ≡ coordinate_of (some z) q
 unfolding coordinate_of within less
-same_coordinate y o z q e = ap (λ (d : ℤ). cond (leb (size_of d) 10000) (At d) Far) e
+same_coordinate y o z q e = ap (λ (d : ℤ). cond (leb (size_of d) 10000) (Some d) None) e
 
-near : (z o d : ℤ) → z -ℤ o ≡ d → size_of d ≤ 10000 → At d ≡ coordinate_of (some z) o
+near : (z o d : ℤ) → z -ℤ o ≡ d → size_of d ≤ 10000 → Some d ≡ coordinate_of (some z) o
 unfolding coordinate_of within less
 near z o d e h = rw (e, le-leb (size_of d) 10000 h)
 
-far : (z o d : ℤ) → z -ℤ o ≡ d → 10000 < size_of d → Far ≡ coordinate_of (some z) o
+far : (z o d : ℤ) → z -ℤ o ≡ d → 10000 < size_of d → None ≡ coordinate_of (some z) o
 unfolding coordinate_of within less
 far z o d e h = rw (e, lt-leb (size_of d) 10000 h)
 
@@ -34,21 +33,21 @@ pub size-minus : (d : ℕ) → size_of (neg_ℤ (pos d)) ≡ d
 size-minus d = size_neg (pos d) ∙ size-plus d
 
 module _ (z o : ℤ) (d : ℕ) where
-  pub far_plus : z -ℤ o ≡ pos d → 10000 < d → Far ≡ coordinate_of (some z) o
+  pub far_plus : z -ℤ o ≡ pos d → 10000 < d → None ≡ coordinate_of (some z) o
   far_plus e h = far z o (pos d) e (omega (arith, size-plus d))
 
-  pub far_minus : z -ℤ o ≡ neg_ℤ (pos d) → 10000 < d → Far ≡ coordinate_of (some z) o
+  pub far_minus : z -ℤ o ≡ neg_ℤ (pos d) → 10000 < d → None ≡ coordinate_of (some z) o
   far_minus e h = far z o (neg_ℤ (pos d)) e (omega (arith, size-minus d))
 
-  pub at-plus : z -ℤ o ≡ pos d → d ≤ 10000 → At (to_z w64 d) ≡ coordinate_of (some z) o
-  at-plus e h = ap At (to_z_pos w64 d (omega arith)) ∙ near z o (pos d) e (omega (arith, size-plus d))
+  pub at-plus : z -ℤ o ≡ pos d → d ≤ 10000 → Some (to_z w64 d) ≡ coordinate_of (some z) o
+  at-plus e h = ap Some (to_z_pos w64 d (omega arith)) ∙ near z o (pos d) e (omega (arith, size-plus d))
 
   minus_is : d < 2 ^ 63 → pos 0 -ℤ to_z w64 d ≡ neg_ℤ (pos d)
   minus_is h = ap (λ (y : ℤ). pos 0 -ℤ y) (to_z_pos w64 d h) ∙ +ℤ_idl (neg_ℤ (pos d))
 
-  pub at-minus : z -ℤ o ≡ neg_ℤ (pos d) → d ≤ 10000 → At (rd (pos 0 -ℤ to_z w64 d)) ≡ coordinate_of (some z) o
+  pub at-minus : z -ℤ o ≡ neg_ℤ (pos d) → d ≤ 10000 → Some (rd (pos 0 -ℤ to_z w64 d)) ≡ coordinate_of (some z) o
   at-minus e h =
-      ap At (ap rd (minus_is (omega arith)) ∙ rd-small (neg_ℤ (pos d)) (omega (arith, size-minus d))) ∙ near z o (neg_ℤ (pos d)) e (omega (arith, size-minus d))
+      ap Some (ap rd (minus_is (omega arith)) ∙ rd-small (neg_ℤ (pos d)) (omega (arith, size-minus d))) ∙ near z o (neg_ℤ (pos d)) e (omega (arith, size-minus d))
 
 pub minus_fits : (d : ℕ) → d < 2 ^ 63 → SFits w64 (pos 0 -ℤ to_z w64 d)
 minus_fits d h = rw (minus_is (pos 0) (pos 0) d h) (size_fits (neg_ℤ (pos d)) (omega (arith, size-minus d)))
@@ -73,7 +72,7 @@ module _ (n a : ℕ) where
 
 -- ---- the four ways of a whole number less the origin
 
-module _ (minus : Bool) (n a : ℕ) (o : ℤ) (f : SFits w64 o) (e : a ≡ size_of (rd o)) (r : Coordinate) where
+module _ (minus : Bool) (n a : ℕ) (o : ℤ) (f : SFits w64 o) (e : a ≡ size_of (rd o)) (r : Option ℤ) where
   size_is : a ≡ size_of o
   size_is = e ∙ ap size_of (to_z-of_z w64 o f)
 

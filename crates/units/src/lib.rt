@@ -10,15 +10,8 @@ ghost use Rattle.laws.specs.Ints.{size_of, signed};
 ghost use Rattle.units.specs.Whole.{whole_of};
 ghost use Rattle.units.specs.Coordinates.{coordinate_of};
 
-// How far a coordinate may be from 0.
+// How far a coordinate may be from 0. One that is further is no coordinate.
 const MOST: u64 = 10000;
-
-// A whole coordinate less the origin's number, if it is at most that far.
-#[derive(Clone, Copy)]
-pub enum Coordinate {
-    Far,
-    At(i64),
-}
 
 // Of a float above 0 and below 2^64. Below 2^52 the sum with 2^52 has no room for a fraction, so it is rounded to a whole number; from there on every float is
 // whole.
@@ -39,57 +32,49 @@ fn nearest_whole(x: f64) -> u64
 pub fn size_of(o: i64) -> u64
     ensures { result ≡ size_of o }
 {
-    if o < 0 {
-        let m = -1 - o;
-        return (m as u64) + 1;
-    }
-    o as u64
+    o.unsigned_abs()
 }
 
 // n - a
-fn gap(n: u64, a: u64) -> Coordinate
+fn gap(n: u64, a: u64) -> Option<i64>
     ensures { result ≡ coordinate_of (some (pos n)) (pos a) }
 {
     if n < a {
         let d = a - n;
         if d <= MOST {
-            return Coordinate::At(-(d as i64));
+            return Some(-(d as i64));
         }
-        return Coordinate::Far;
+        return None;
     }
     let d = n - a;
     if d <= MOST {
-        return Coordinate::At(d as i64);
+        return Some(d as i64);
     }
-    Coordinate::Far
+    None
 }
 
 // n + a
-fn above(n: u64, a: u64) -> Coordinate
+fn above(n: u64, a: u64) -> Option<i64>
     ensures { result ≡ coordinate_of (some (pos n)) (neg_ℤ (pos a)) }
 {
-    if n <= MOST {
-        if a <= MOST - n {
-            return Coordinate::At((n + a) as i64);
-        }
+    if n <= MOST && a <= MOST - n {
+        return Some((n + a) as i64);
     }
-    Coordinate::Far
+    None
 }
 
 // -n - a
-fn below(n: u64, a: u64) -> Coordinate
+fn below(n: u64, a: u64) -> Option<i64>
     ensures { result ≡ coordinate_of (some (neg_ℤ (pos n))) (pos a) }
 {
-    if n <= MOST {
-        if a <= MOST - n {
-            return Coordinate::At(-((n + a) as i64));
-        }
+    if n <= MOST && a <= MOST - n {
+        return Some(-((n + a) as i64));
     }
-    Coordinate::Far
+    None
 }
 
 // A whole number by its sign and size, less the origin's number. No difference is taken that could overflow.
-fn less_origin(minus: bool, n: u64, o: i64) -> Coordinate
+fn less_origin(minus: bool, n: u64, o: i64) -> Option<i64>
     ensures { result ≡ coordinate_of (some (signed minus n)) o }
 {
     let a = size_of(o);
@@ -106,7 +91,7 @@ fn less_origin(minus: bool, n: u64, o: i64) -> Coordinate
 }
 
 // A position scaled, rounded, and less the origin's number.
-pub fn coordinate_of(x: f64, scale: f64, o: i64) -> Coordinate
+pub fn coordinate_of(x: f64, scale: f64, o: i64) -> Option<i64>
     ensures { result ≡ coordinate_of (whole_of (mul binary64 x scale)) o }
 {
     let y = x * scale;
@@ -115,7 +100,7 @@ pub fn coordinate_of(x: f64, scale: f64, o: i64) -> Coordinate
             let n = nearest_whole(y);
             return less_origin(false, n, o);
         }
-        return Coordinate::Far;
+        return None;
     }
     if y < 0.0 {
         let z = -y;
@@ -123,10 +108,10 @@ pub fn coordinate_of(x: f64, scale: f64, o: i64) -> Coordinate
             let n = nearest_whole(z);
             return less_origin(true, n, o);
         }
-        return Coordinate::Far;
+        return None;
     }
     if y == 0.0 {
         return less_origin(false, 0, o);
     }
-    Coordinate::Far
+    None
 }

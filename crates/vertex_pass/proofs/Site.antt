@@ -1,4 +1,5 @@
 -- The clusters of one site are its vertices in the definition, and its case is counted. Assumes nothing.
+use Rattle.std.specs.Prelude.{Option}
 use mathlib.Core.Path.{◌≡◌, refl, sym, ap, ◌∙◌}
 use mathlib.Core.Bool.{Bool, true, false, not, ◌&&◌, cond}
 use mathlib.Core.List.{List, [], ◌∷◌, ◌++◌, map}
@@ -17,7 +18,6 @@ use Rattle.laws.proofs.Ranges.{each_list, each_none, each-one-at, each-one-lengt
 use Rattle.laws.proofs.Sums.{sum-le, sum-turn}
 use Rattle.lattice.specs.declared.Sides.{Sides}
 use Rattle.marks.specs.Marks.{mask_at}
-use Rattle.samples.specs.declared.Sample.{Sample}
 use Rattle.topology.specs.declared.TopologyCase.{TopologyCase}
 use Rattle.topology.specs.declared.TopologyCase.TheVariants.{ClosedSurface, MultiHole, FlatHole, MultiSurface, SimpleSurface, DoNotCluster}
 use Rattle.topology.specs.declared.TopologyResult.{TopologyResult}
@@ -35,7 +35,7 @@ module _ (n : Sides) (S : List Float) (h : Float) (cluster : Bool) (s : ℕ) whe
   abbrev pub found : TopologyResult
   found = topology_of (mask_at n S h s) cluster (ends_of n S s) h
 
-  pub found-is : (m : ℕ) (ends : List Sample) (r : TopologyResult) → m ≡ mask_at n S h s → ends ≡ ends_of n S s → r ≡ topology_of m cluster ends h → r ≡ found
+  pub found-is : (m : ℕ) (ends : List (Option Float)) (r : TopologyResult) → m ≡ mask_at n S h s → ends ≡ ends_of n S s → r ≡ topology_of m cluster ends h → r ≡ found
   found-is m ends r a b e = e ∙ (λ i. topology_of (a i) cluster (b i) h)
 
   -- each cluster's candidate in turn

@@ -103,12 +103,9 @@ fn draw_site(
     ensures { Passed frame n samples.now (flag_of flags.now) (each clusters.count (λ c. candidate_of n samples.now s (get_or clusters.masks c 0))) at table.old positions.old book.old result table.new positions.new book.new }
 {
     let mut now = at;
-    let count = clusters.count;
-    let masks = clusters.masks;
-    for c in 0..count {
-        let mask = masks[c];
+    for mask in &clusters.masks[..clusters.count] {
         now = draw_vertex(
-            frame, n, samples, table, positions, book, flags, s, mask, now,
+            frame, n, samples, table, positions, book, flags, s, *mask, now,
         );
     }
     now
@@ -166,11 +163,7 @@ fn draw_at(
 fn empty_table(table: &mut [u32])
     ensures { table.new ≡ replicate (length table.old) none }
 {
-    let mut i = 0;
-    while i < table.len() {
-        table[i] = march::NONE;
-        i += 1;
-    }
+    table.fill(march::NONE);
 }
 
 // The whole pass: all sites in order.

@@ -16,9 +16,8 @@ use Rattle.laws.specs.Triangles.{Tri, tris_of}
 use Rattle.laws.proofs.Bools.{and-apart, and_yes}
 use Rattle.laws.proofs.Sizes.{size-add, size_fits}
 use Rattle.laws.proofs.Triangles.{tris_length}
-use Rattle.volume.specs.Volume.{det, six_volume, axis_x, axis_y, axis_z, tri_ok, lists_ok, scale_ok, refused, summed, volume_of}
+use Rattle.volume.specs.Volume.{Volume, det, six_volume, axis_x, axis_y, axis_z, tri_ok, lists_ok, scale_ok, refused, summed, volume_of}
 use Rattle.volume.specs.declared.Whole.{Whole}
-use Rattle.volume.specs.declared.Volume.{Volume}
 use Rattle.volume.proofs.Sums.{det-most}
 
 -- ---- the lists

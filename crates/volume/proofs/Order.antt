@@ -16,10 +16,9 @@ use Rattle.laws.proofs.Bools.{and-apart, and_yes}
 use Rattle.laws.proofs.Ints.{‹◌›, ◌⊞◌, ◌⊠◌, neg, rep_eq}
 use Rattle.laws.proofs.Triangles.{flat-length, tris_flat}
 use Rattle.laws.proofs.Weighing.{weigh-same}
-use Rattle.volume.specs.Volume.{det, six_volume, axis_x, axis_y, axis_z, corner_ok, tri_ok, lists_ok, scale_ok, refused, summed, volume_of}
+use Rattle.volume.specs.Volume.{Volume, det, six_volume, axis_x, axis_y, axis_z, corner_ok, tri_ok, lists_ok, scale_ok, refused, summed, volume_of}
 use Rattle.volume.specs.Triangles.{reversed, negated, turn_by, turned_by, is_tri, SameTris}
 use Rattle.volume.specs.declared.Whole.{Whole}
-use Rattle.volume.specs.declared.Volume.{Volume}
 
 -- ---- the answer by four things that it takes from the triangles: how many there are, whether all are named, whether all are accepted, and the sum
 

@@ -2,8 +2,7 @@
 use Rattle.std.specs.Prelude.{◌≡◌, List, [], ◌∷◌, map, ℕ, ◌*◌, ℤ, pos, negsuc, replicate, Float}
 use Rattle.std.specs.Float.{binary64}
 use Rattle.std.specs.Float.Ieee.{of_bits}
-use Rattle.volume.specs.declared.Volume.{Volume}
-use Rattle.volume.specs.Volume.{volume_of}
+use Rattle.volume.specs.Volume.{Volume, volume_of}
 
 abbrev pub float : ℕ → Float
 float b = of_bits binary64 b

@@ -2,7 +2,7 @@
 use Rattle.std.specs.Prelude.{◌≡◌, Bool, ◌&&◌, List, [], ◌∷◌, ℕ, zero, suc, eqb, neg_ℤ}
 use Rattle.laws.specs.Lists.{count}
 use Rattle.laws.specs.Triangles.{Tri}
-use Rattle.volume.specs.declared.Volume.{Volume}
+use Rattle.volume.specs.Volume.{Volume}
 
 -- the other way round
 unfoldable pub reversed : Tri → Tri

@@ -1,5 +1,5 @@
 -- Six times the volume that a triangle list encloses, in whole units, signed and exact (docs/SCOPE.md, S12). Assumes nothing.
-use Rattle.std.specs.Prelude.{Bool, false, ◌&&◌, cond, List, ℕ, ◌+◌, ◌*◌, ◌/◌, ◌%◌, eqb, leb, ltb, ℤ, pos, ◌+ℤ◌, ◌-ℤ◌, ◌*ℤ◌, length, get_or, Float}
+use Rattle.std.specs.Prelude.{Bool, false, ◌&&◌, cond, List, ℕ, ◌+◌, ◌*◌, ◌/◌, ◌%◌, eqb, leb, ltb, ℤ, pos, ◌+ℤ◌, ◌-ℤ◌, ◌*ℤ◌, length, get_or, Float, Result, Ok, Err}
 use Rattle.std.proofs.Math.Option.{Option}
 use Rattle.std.specs.Float.{nan, inf, fin, binary64}
 use Rattle.std.specs.Float.Ieee.{mul, lt}
@@ -8,7 +8,8 @@ use Rattle.laws.specs.Triangles.{Tri, tris_of}
 use Rattle.units.specs.Whole.{whole_of}
 use Rattle.units.specs.Coordinates.{within, less}
 use Rattle.volume.specs.declared.Whole.{Whole}
-use Rattle.volume.specs.declared.Volume.{Volume}
+use Rattle.volume.specs.declared.Refusal.{Refusal}
+use Rattle.volume.specs.declared.Refusal.TheVariants.{Lists, Scale, Corner}
 
 -- ---- the determinant of the rows a, b and c, by its first column
 
@@ -47,6 +48,11 @@ module _ (P : List Float) (s : Float) (o : Whole) where
 
 -- ---- the answer
 
+-- status 0 with six times the volume, or a refusal's number with 0
+pub record Volume : Type 0 where
+  pub status : ℕ
+  pub six : ℤ
+
 -- both in whole threes, at most 357,492 triangles, every index below the number of vertices
 unfoldable pub lists_ok : List Float → List ℕ → Bool
 lists_ok P T = eqb (length P % 3) 0 && eqb (length T % 3) 0 && leb (length T / 3) 357492 && every (λ v. ltb v (length P / 3)) T
@@ -57,6 +63,16 @@ scale_ok s = lt (fin false 0 (pos 0)) s && lt s (inf false)
 
 unfoldable pub refused : ℕ → Volume
 refused n = record { status = n; six = pos 0 }
+
+abbrev pub number_of : Refusal → ℕ
+number_of Lists = 10
+number_of Scale = 12
+number_of Corner = 13
+
+-- what a result says
+unfoldable pub told : Result ℤ Refusal → Volume
+told (Ok six) = record { status = 0; six = six }
+told (Err e) = refused (number_of e)
 
 -- of lists and a scale that are fit
 unfoldable pub summed : List Float → Float → Whole → List Tri → Volume

@@ -4,12 +4,13 @@
 ghost use Rattle.std.specs.Prelude.{◌≡◌, true, ◌+◌, ◌*◌, ◌≤◌, ◌<◌, ◌+ℤ◌, ◌-ℤ◌, ◌*ℤ◌, length};
 ghost use Rattle.laws.specs.Ints.{size_of};
 ghost use Rattle.laws.specs.Triangles.{tris_of};
-ghost use Rattle.volume.specs.Volume.{det9, lists_ok, scale_ok, refused, summed, volume_of};
-ghost use Rattle.volume.specs.Parts.{whole3, Sized, corner_of, term_of};
+ghost use Rattle.volume.specs.Volume.{det9, lists_ok, scale_ok, summed, volume_of, number_of, told};
+ghost use Rattle.volume.specs.Parts.{Near, Sized, corner_of, term_of};
 
-use units::Coordinate;
+// How many triangles are taken.
+const MOST: usize = 357492;
 
-// The origin, in whole units.
+// A point in whole units: the origin, or a corner of a triangle, taken from it.
 #[derive(Clone, Copy)]
 pub struct Whole {
     pub x: i64,
@@ -17,25 +18,25 @@ pub struct Whole {
     pub z: i64,
 }
 
-// The answer: status 0 with six times the volume, or a refusal, 10, 12 or 13, with 0.
-#[derive(Clone, Copy)]
-pub struct Volume {
-    pub status: usize,
-    pub six: i64,
+// Why there is no volume: lists that are not fit, a scale that is none, or a corner that is too far.
+#[derive(Clone, Copy, Debug, PartialEq, Eq)]
+pub enum Refusal {
+    Lists,
+    Scale,
+    Corner,
 }
 
-// A corner of a triangle, if its coordinates are accepted.
-#[derive(Clone, Copy)]
-enum Corner {
-    Out,
-    In(i64, i64, i64),
-}
-
-// The determinant of a triangle, if its corners are accepted.
-#[derive(Clone, Copy)]
-enum Term {
-    Missing,
-    Six(i64),
+impl Refusal {
+    // The status that stands for it.
+    pub fn number(self) -> usize
+        ensures { result ≡ number_of self }
+    {
+        match self {
+            Refusal::Lists => 10,
+            Refusal::Scale => 12,
+            Refusal::Corner => 13,
+        }
+    }
 }
 
 fn minor(a: i64, b: i64, c: i64, d: i64) -> i64
@@ -60,134 +61,95 @@ fn sum(p: i64, q: i64, r: i64) -> i64
 }
 
 // Of the rows a, b and c.
-fn determinant(
-    ax: i64,
-    ay: i64,
-    az: i64,
-    bx: i64,
-    by: i64,
-    bz: i64,
-    cx: i64,
-    cy: i64,
-    cz: i64,
-) -> i64
-    requires ax_bound { (size_of ax ≤ 10000) × (size_of ay ≤ 10000) × (size_of az ≤ 10000) }
-    requires bx_bound { (size_of bx ≤ 10000) × (size_of by ≤ 10000) × (size_of bz ≤ 10000) }
-    requires cx_bound { (size_of cx ≤ 10000) × (size_of cy ≤ 10000) × (size_of cz ≤ 10000) }
-    ensures { result ≡ det9 ax ay az bx by bz cx cy cz }
+fn determinant(a: Whole, b: Whole, c: Whole) -> i64
+    requires near_a { Near a }
+    requires near_b { Near b }
+    requires near_c { Near c }
+    ensures { result ≡ det9 a.x a.y a.z b.x b.y b.z c.x c.y c.z }
 {
-    let p = times(ax, minor(by, bz, cy, cz));
-    let q = times(bx, minor(cy, cz, ay, az));
-    let r = times(cx, minor(ay, az, by, bz));
+    let p = times(a.x, minor(b.y, b.z, c.y, c.z));
+    let q = times(b.x, minor(c.y, c.z, a.y, a.z));
+    let r = times(c.x, minor(a.y, a.z, b.y, b.z));
     sum(p, q, r)
 }
 
-// The corner at vertex v: out if one of its coordinates is not accepted.
-fn corner_of(positions: &[f64], v: usize, scale: f64, ox: i64, oy: i64, oz: i64) -> Corner
+// The corner at vertex v, if its coordinates are accepted.
+fn corner_of(positions: &[f64], v: usize, scale: f64, origin: Whole) -> Option<Whole>
     requires { 3 * v + 2 < length positions.now }
-    ensures { result ≡ corner_of positions.now scale (whole3 ox oy oz) v }
+    ensures { result ≡ corner_of positions.now scale origin v }
 {
     let i = 3 * v;
-    let Coordinate::At(x) = units::coordinate_of(positions[i], scale, ox) else {
-        return Corner::Out;
-    };
-    let Coordinate::At(y) = units::coordinate_of(positions[i + 1], scale, oy) else {
-        return Corner::Out;
-    };
-    let Coordinate::At(z) = units::coordinate_of(positions[i + 2], scale, oz) else {
-        return Corner::Out;
-    };
-    Corner::In(x, y, z)
+    let x = units::coordinate_of(positions[i], scale, origin.x)?;
+    let y = units::coordinate_of(positions[i + 1], scale, origin.y)?;
+    let z = units::coordinate_of(positions[i + 2], scale, origin.z)?;
+    Some(Whole { x, y, z })
 }
 
-// The determinant of a triangle's corners.
+// The determinant of a triangle's corners, if they are accepted.
 fn triangle_of(
     positions: &[f64],
     a: usize,
     b: usize,
     c: usize,
     scale: f64,
-    ox: i64,
-    oy: i64,
-    oz: i64,
-) -> Term
+    origin: Whole,
+) -> Option<i64>
     requires { (3 * a + 2 < length positions.now) × (3 * b + 2 < length positions.now) × (3 * c + 2 < length positions.now) }
-    ensures { result ≡ term_of positions.now scale (whole3 ox oy oz) (a, b, c) }
+    ensures { result ≡ term_of positions.now scale origin (a, b, c) }
 {
-    let Corner::In(ax, ay, az) = corner_of(positions, a, scale, ox, oy, oz) else {
-        return Term::Missing;
-    };
-    let Corner::In(bx, by, bz) = corner_of(positions, b, scale, ox, oy, oz) else {
-        return Term::Missing;
-    };
-    let Corner::In(cx, cy, cz) = corner_of(positions, c, scale, ox, oy, oz) else {
-        return Term::Missing;
-    };
-    Term::Six(determinant(ax, ay, az, bx, by, bz, cx, cy, cz))
+    let p = corner_of(positions, a, scale, origin)?;
+    let q = corner_of(positions, b, scale, origin)?;
+    let r = corner_of(positions, c, scale, origin)?;
+    Some(determinant(p, q, r))
 }
 
 fn lists_ok(positions: &[f64], triangles: &[u32]) -> bool
     ensures { result ≡ lists_ok positions.now triangles.now }
 {
-    if positions.len() % 3 == 0 {
-        if triangles.len() % 3 == 0 {
-            if triangles.len() / 3 <= 357492 {
-                return mesh::named(triangles, positions.len() / 3);
-            }
-        }
-    }
-    false
+    positions.len() % 3 == 0
+        && triangles.len() % 3 == 0
+        && triangles.len() / 3 <= MOST
+        && mesh::named(triangles, positions.len() / 3)
 }
 
 // Above 0 and finite.
 fn scale_ok(scale: f64) -> bool
     ensures { result ≡ scale_ok scale }
 {
-    let top = 1.0 / 0.0;
-    if 0.0 < scale { scale < top } else { false }
-}
-
-fn refusal(status: usize) -> Volume
-    ensures { result ≡ refused status }
-{
-    Volume { status, six: 0 }
+    0.0 < scale && scale < f64::INFINITY
 }
 
 // The sum over the triangles; it stops at the first corner that is not accepted.
-fn sum_of(positions: &[f64], triangles: &[u32], scale: f64, ox: i64, oy: i64, oz: i64) -> Volume
+fn sum_of(positions: &[f64], triangles: &[u32], scale: f64, origin: Whole) -> Result<i64, Refusal>
     requires { lists_ok positions.now triangles.now ≡ true }
-    ensures { result ≡ summed positions.now scale (whole3 ox oy oz) (tris_of triangles.now) }
+    ensures { told result ≡ summed positions.now scale origin (tris_of triangles.now) }
 {
-    let n = triangles.len() / 3;
     let mut six: i64 = 0;
-    let mut k = 0;
-    while k < n {
-        let a = mesh::index(triangles[3 * k]);
-        let b = mesh::index(triangles[3 * k + 1]);
-        let c = mesh::index(triangles[3 * k + 2]);
-        let Term::Six(d) = triangle_of(positions, a, b, c, scale, ox, oy, oz) else {
-            return refusal(13);
-        };
-        six += d;
-        k += 1;
+    for t in triangles.chunks_exact(3) {
+        let a = mesh::index(t[0]);
+        let b = mesh::index(t[1]);
+        let c = mesh::index(t[2]);
+        six += triangle_of(positions, a, b, c, scale, origin).ok_or(Refusal::Corner)?;
     }
-    Volume { status: 0, six }
+    Ok(six)
 }
 
 // Six times the volume. Positions and triangles are lists in whole threes; a position times the scale, rounded to the nearest whole number, less the origin's
-// number, is a coordinate. Nothing is stored. Refusals: 10 for lists that are not in threes, over 357,492 triangles or an index past the vertices; 12 for a
-// scale that is not above 0 and finite; 13 for a corner of a triangle that is not within -10,000 to 10,000 on each axis.
-pub fn volume_of(positions: &[f64], triangles: &[u32], scale: f64, origin: Whole) -> Volume
-    ensures { result ≡ volume_of positions.now triangles.now scale origin }
+// number, is a coordinate. Nothing is stored. Refusals: `Lists` for lists that are not in threes, over 357,492 triangles or an index past the vertices; `Scale`
+// for a scale that is not above 0 and finite; `Corner` for a corner of a triangle that is not within -10,000 to 10,000 on each axis.
+pub fn volume_of(
+    positions: &[f64],
+    triangles: &[u32],
+    scale: f64,
+    origin: Whole,
+) -> Result<i64, Refusal>
+    ensures { told result ≡ volume_of positions.now triangles.now scale origin }
 {
-    if lists_ok(positions, triangles) {
-        if scale_ok(scale) {
-            let ox = origin.x;
-            let oy = origin.y;
-            let oz = origin.z;
-            return sum_of(positions, triangles, scale, ox, oy, oz);
-        }
-        return refusal(12);
+    if !lists_ok(positions, triangles) {
+        return Err(Refusal::Lists);
     }
-    refusal(10)
+    if !scale_ok(scale) {
+        return Err(Refusal::Scale);
+    }
+    sum_of(positions, triangles, scale, origin)
 }

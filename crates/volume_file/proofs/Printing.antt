@@ -24,7 +24,7 @@ use Rattle.lines.proofs.Lines.{dec_line-room}
 use Rattle.lines.proofs.Printing.{refusal-length}
 use Rattle.decimals.specs.Decimals.{sign_of, signed_dec, decimal}
 use Rattle.decimals.proofs.Printing.{sign-room, signed-room, decimal-room}
-use Rattle.volume.specs.declared.Volume.{Volume}
+use Rattle.volume.specs.Volume.{Volume}
 use Rattle.volume_file.specs.Text.{triangles_key, six_key, volume_key, sixths_key, six_line, volume_line, volume_text, answer_text}
 
 -- ---- how long the lines are

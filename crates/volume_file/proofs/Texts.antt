@@ -18,8 +18,7 @@ use Rattle.file_build.specs.declared.Built.{Built}
 use Rattle.file_build.specs.Asked.{work_space, BuiltOf}
 use Rattle.file_build.proofs.Told.{told_unique, told-at_unique, told_at, Meant, meant, told-refused}
 use Rattle.volume.specs.declared.Whole.{Whole}
-use Rattle.volume.specs.declared.Volume.{Volume}
-use Rattle.volume.specs.Volume.{scale_ok, volume_of}
+use Rattle.volume.specs.Volume.{Volume, scale_ok, volume_of}
 use Rattle.volume.proofs.Answers.{status-zero}
 use Rattle.volume_file.specs.Text.{answer_text, scale_of, measure_of, Measured, MeasuredAt}
 use Rattle.volume_file.proofs.Printing.{answer-room}

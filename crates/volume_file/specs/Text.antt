@@ -11,8 +11,7 @@ use Rattle.decimals.specs.Decimals.{sign_of, signed_dec, decimal}
 use Rattle.build.specs.Answer.{Order, status, order_box, order_vertices, order_positions, order_triangles}
 use Rattle.file_build.specs.Told.{Told, ToldAt}
 use Rattle.volume.specs.declared.Whole.{Whole}
-use Rattle.volume.specs.declared.Volume.{Volume}
-use Rattle.volume.specs.Volume.{volume_of}
+use Rattle.volume.specs.Volume.{Volume, volume_of}
 
 -- ---- the lines; d digits say that 10 ^ d whole units make one of the frame's
 

@@ -3,51 +3,41 @@
 
 ghost use Rattle.std.specs.Prelude.{◌≡◌, ◌+◌, ◌≤◌, ◌<◌, length};
 ghost use Rattle.laws.specs.Written.{Written};
+ghost use Rattle.volume.specs.Volume.{told};
 ghost use Rattle.volume_file.specs.Words.{WordsOf};
 ghost use Rattle.volume_file.specs.Text.{six_line, volume_line, volume_text, answer_text, scale_of, MeasuredAt};
 
-use decimals::{Natural, Signed};
-use volume::{Volume, Whole};
+use volume::{Refusal, Whole};
 
 // ---- the words
 
-// How many digits, and the origin, if the words are such numbers.
+// How many digits, and the origin.
 #[derive(Clone, Copy)]
-pub enum Words {
-    Wrong,
-    Right {
-        digits: usize,
-        x: i64,
-        y: i64,
-        z: i64,
-    },
+pub struct Words {
+    pub digits: usize,
+    pub origin: Whole,
 }
 
-// The digits are 0 to 6; the origin is three whole numbers of 64 bits, each with a minus where it is below 0, no plus and no needless zero.
-pub fn read_words(digits: &[u8], x: &[u8], y: &[u8], z: &[u8]) -> Words
+// The words, if they are such numbers. The digits are 0 to 6; the origin is three whole numbers of 64 bits, each with a minus where it is below 0, no plus and no
+// needless zero.
+pub fn read_words(digits: &[u8], x: &[u8], y: &[u8], z: &[u8]) -> Option<Words>
     ensures { WordsOf digits.now x.now y.now z.now result }
 {
-    let Natural::Is(n) = decimals::read_natural(digits) else {
-        return Words::Wrong;
-    };
+    let n = decimals::read_natural(digits)?;
     if 6 < n {
-        return Words::Wrong;
+        return None;
     }
-    let Signed::Number(ox) = decimals::read_signed(x) else {
-        return Words::Wrong;
-    };
-    let Signed::Number(oy) = decimals::read_signed(y) else {
-        return Words::Wrong;
-    };
-    let Signed::Number(oz) = decimals::read_signed(z) else {
-        return Words::Wrong;
-    };
-    Words::Right {
+    let ox = decimals::read_signed(x)?;
+    let oy = decimals::read_signed(y)?;
+    let oz = decimals::read_signed(z)?;
+    Some(Words {
         digits: n as usize,
-        x: ox,
-        y: oy,
-        z: oz,
-    }
+        origin: Whole {
+            x: ox,
+            y: oy,
+            z: oz,
+        },
+    })
 }
 
 // ---- the text
@@ -90,43 +80,27 @@ fn put_lines(out: &mut [u8], at: usize, d: usize, triangles: u64, z: i64) -> usi
 }
 
 // What is printed of an answer: five lines, or a refusal's one, at the front of `out`.
-fn print(out: &mut [u8], d: usize, triangles: u64, v: Volume) -> usize
-    requires { (v.status ≡ 0 → d < 7) × (161 ≤ length out.old) }
-    ensures { Written out.old 0 (answer_text d triangles v) out.new result }
+fn print(out: &mut [u8], d: usize, triangles: u64, v: Result<i64, Refusal>) -> usize
+    requires { ((told v).status ≡ 0 → d < 7) × (161 ≤ length out.old) }
+    ensures { Written out.old 0 (answer_text d triangles (told v)) out.new result }
 {
-    let status = v.status;
-    if status == 0 {
-        return put_lines(out, 0, d, triangles, v.six);
+    match v {
+        Ok(six) => put_lines(out, 0, d, triangles, six),
+        Err(refusal) => lines::put_status(out, 0, refusal.number() as u64),
     }
-    lines::put_status(out, 0, status as u64)
 }
 
 // ---- the work
 
-// 10 to the power of d, or 0 where d is over 6.
+// 10 to the power of each number of digits that is taken.
+const SCALES: [f64; 7] = [1.0, 10.0, 100.0, 1000.0, 10000.0, 100000.0, 1000000.0];
+
+// 10 to the power of d, or 0, which is no scale, where d is over 6.
 fn scale_of(d: usize) -> f64
     ensures { result ≡ scale_of d }
 {
-    if d == 0 {
-        return 1.0;
-    }
-    if d == 1 {
-        return 10.0;
-    }
-    if d == 2 {
-        return 100.0;
-    }
-    if d == 3 {
-        return 1000.0;
-    }
-    if d == 4 {
-        return 10000.0;
-    }
-    if d == 5 {
-        return 100000.0;
-    }
-    if d == 6 {
-        return 1000000.0;
+    if d < SCALES.len() {
+        return SCALES[d];
     }
     0.0
 }

@@ -4,7 +4,6 @@
 #![tactic(auto)]
 
 use std::env::Env;
-use volume::Whole;
 use volume_file::Words;
 
 fn usage(rt: &HostRuntime) {
@@ -12,7 +11,7 @@ fn usage(rt: &HostRuntime) {
 }
 
 // The four words. One that is missing or too long is read as an empty one, which is no number.
-fn words(rt: &impl Env) -> Words {
+fn words(rt: &impl Env) -> Option<Words> {
     let mut digits = [0u8; 32];
     let d = rt.arg(1, &mut digits).unwrap_or(0);
     let mut x = [0u8; 32];
@@ -24,27 +23,26 @@ fn words(rt: &impl Env) -> Words {
     volume_file::read_words(&digits[..d], &x[..a], &y[..b], &z[..c])
 }
 
-fn answer(rt: &HostRuntime, digits: usize, origin: Whole) {
+fn answer(rt: &HostRuntime, asked: Words) {
     let mut space = [0u8; count_file::ENOUGH];
-    let taken = streams::read(
+    let Some(taken) = streams::read(
         rt,
         b"usage: volume_main DIGITS X Y Z [FILE]\n",
         5,
         &mut space,
-    );
-    if taken.ok {
-        let n = taken.length;
-        let mut out = [0u8; 161];
-        let k = volume_file::volume_text(&space[..n], digits, origin, &mut out);
-        streams::write(rt, &out[..k]);
-        streams::finish(rt, taken.from);
-    }
+    ) else {
+        return;
+    };
+    let mut out = [0u8; 161];
+    let k = volume_file::volume_text(&space[..taken.length], asked.digits, asked.origin, &mut out);
+    streams::write(rt, &out[..k]);
+    streams::finish(rt, taken.from);
 }
 
 fn main(rt: HostRuntime) {
-    let Words::Right { digits, x, y, z } = words(&rt) else {
+    let Some(asked) = words(&rt) else {
         usage(&rt);
         return;
     };
-    answer(&rt, digits, Whole { x, y, z });
+    answer(&rt, asked);
 }

@@ -1,27 +1,23 @@
 -- `build::build` meets its contract. Assumes nothing.
 use Rattle.build.proofs.Answering.{refused-build, order_grantable, done-build}
 use Rattle.build.specs.Answer.{order, lists, lengths_of}
-use Rattle.refusals.proofs.Status.{reply_status, reply_crossed}
-use mathlib.Core.Path.{refl, sym, ◌∙◌}
+use Rattle.refusals.proofs.Status.{number-not, told_refusal, told_granted}
+use mathlib.Core.Path.{refl, ◌∙◌}
 use Rattle.build.proofs.build.Goals as goal
 
-pub returns-then-reply-ne0 : goal.returns-then-reply-ne0
-returns-then-reply-ne0 c = let a = c.args in
-    let y = c.request-reply in
+pub returns-in-Err : goal.returns-in-Err
+returns-in-Err c = let a = c.args in
     let o = order a.n a.method a.rounds a.threshold a.frame a.samples.now (lengths_of (lists a.masks.now a.table.now a.positions.now a.book.now a.tris.now a.edges.now)) in
-    let e = reply_status a.n a.method a.rounds a.frame a.samples.now o.lent a.threshold y.result y.ensures in
-    refused-build o (λ z. c.if-reply-ne0.true (e ∙ z)) e c.refused.ensures
+    let e = told_refusal a.n a.method a.rounds a.frame a.samples.now o.lent a.threshold c.request.ensures c.in-Err.is in
+    refused-build o (λ z. number-not c.in-Err.refusal (e ∙ z)) (c.number.ensures ∙ e) c.refused.ensures
 
 pub grant-requires : goal.grant-requires
 grant-requires c = let a = c.args in
-    let y = c.request-reply in
     let o = order a.n a.method a.rounds a.threshold a.frame a.samples.now (lengths_of (lists a.masks.now a.table.now a.positions.now a.book.now a.tris.now a.edges.now)) in
-    let e = reply_status a.n a.method a.rounds a.frame a.samples.now o.lent a.threshold y.result y.ensures in
-    order_grantable o (sym e ∙ c.if-reply-ne0.false) refl
+    order_grantable o (told_granted a.n a.method a.rounds a.frame a.samples.now o.lent a.threshold c.request.ensures c.in-Ok.is).0 refl
 
 pub returns : goal.returns
 returns c = let a = c.args in
-    let y = c.request-reply in
     let o = order a.n a.method a.rounds a.threshold a.frame a.samples.now (lengths_of (lists a.masks.now a.table.now a.positions.now a.book.now a.tris.now a.edges.now)) in
-    let e = reply_status a.n a.method a.rounds a.frame a.samples.now o.lent a.threshold y.result y.ensures in
-    done-build o (sym e ∙ c.if-reply-ne0.false) (reply_crossed a.n a.method a.rounds a.frame a.samples.now o.lent a.threshold y.result y.ensures c.if-reply-ne0.false) c.grant.ensures
+    let g = told_granted a.n a.method a.rounds a.frame a.samples.now o.lent a.threshold c.request.ensures c.in-Ok.is in
+    done-build o g.0 g.1 c.grant.ensures

@@ -9,30 +9,18 @@ use Rattle.laws.proofs.Sums.{sum-none, sum-turn}
 use Rattle.cases.specs.Inner.Codes.{code_sum}
 use Rattle.cases.proofs.code_sum.Goals as goal
 
-pub loop-c-init : goal.loop-c-init
-loop-c-init c = (search rules, sym (sum-none _), search rules)
-
-pub offset_bounds-codes-c : goal.offset_bounds-codes-c
-offset_bounds-codes-c c = omega arith
-
-pub bounds-codes-c : goal.bounds-codes-c
-bounds-codes-c c = omega arith
+pub loop-code-init : goal.loop-code-init
+loop-code-init c = (sym (sum-none _), search rules)
 
 pub overflow_add-sum : goal.overflow_add-sum
-overflow_add-sum c = let at = c.loop-c in omega (arith, c.requires.small at.c c.loop-c-test.true)
+overflow_add-sum c = let at = c.loop-code in omega (arith, at.invariant.1, c.requires.small at.code-index c.loop-code-test.true)
 
-pub overflow_step-c : goal.overflow_step-c
-overflow_step-c c = omega arith
-
-pub loop-c-smaller : goal.loop-c-smaller
-loop-c-smaller c = omega arith
-
-pub loop-c-preserved : goal.loop-c-preserved
-loop-c-preserved c = let at = c.loop-c in
-    (omega arith, sum-turn _ at.c _ _ at.invariant.1 refl, omega (arith, c.requires.small at.c c.loop-c-test.true))
+pub loop-code-preserved : goal.loop-code-preserved
+loop-code-preserved c = let at = c.loop-code in
+    (sum-turn _ at.code-index _ _ at.invariant.0 refl, omega (arith, at.invariant.1, c.requires.small at.code-index c.loop-code-test.true))
 
 pub returns : goal.returns
 unfolding code_sum
-returns c = let at = c.loop-c in
-    let e : at.c ≡ 8 = omega arith in
-    at.invariant.1 ∙ ap (λ (k : ℕ). ranges.sum k (λ (i : ℕ). get_or c.args.codes.now i 0)) e
+returns c = let at = c.loop-code in
+    let e : at.code-index ≡ 8 = omega arith in
+    at.invariant.0 ∙ ap (λ (k : ℕ). ranges.sum k (λ (i : ℕ). get_or c.args.codes.now i 0)) e

@@ -2,10 +2,10 @@
 use Rattle.cases.specs.Inner.Codes.{code, code_of, value_code}
 use Rattle.cases.proofs.sample_code.Goals as goal
 
-pub returns-in-Missing : goal.returns-in-Missing
+pub returns-in-None : goal.returns-in-None
 unfolding code_of code
-returns-in-Missing c = rw c.in-Missing.is
+returns-in-None c = rw c.in-None.is
 
-pub returns-in-Value : goal.returns-in-Value
+pub returns-in-Some : goal.returns-in-Some
 unfolding value_code
-returns-in-Value c = rw c.in-Value.is c.value_code.ensures
+returns-in-Some c = rw c.in-Some.is c.value_code.ensures

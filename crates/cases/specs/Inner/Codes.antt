@@ -1,11 +1,9 @@
 -- A corner as one number, 0 outside, 1 inside, 16 where it is not there; the cases from such numbers; what the loops over them ask for. Assumes nothing.
-use Rattle.std.specs.Prelude.{◌≡◌, Bool, cond, List, [], ◌∷◌, ℕ, suc, ◌+◌, ◌*◌, ◌≤◌, ◌<◌, ltb, length, get_or, Float}
+use Rattle.std.specs.Prelude.{◌≡◌, Bool, cond, List, [], ◌∷◌, ℕ, suc, ◌+◌, ◌*◌, ◌≤◌, ◌<◌, ltb, length, get_or, Float, Option, Some}
 use Rattle.std.specs.Float.{nan}
 use Rattle.laws.specs.Bools.{bit}
 use Rattle.laws.specs.Ranges.{each, sum}
 use Rattle.tables.specs.Tets.{tet_corner}
-use Rattle.samples.specs.declared.Sample.{Sample}
-use Rattle.samples.specs.declared.Sample.TheVariants.{Value}
 use Rattle.lattice.specs.declared.Sides.{Sides}
 use Rattle.lattice.specs.Sites.{SidesFit}
 use Rattle.sample_view.specs.View.{value_uvw}
@@ -14,11 +12,11 @@ use Rattle.cases.specs.Cases.{is_there, is_below, corner_value}
 unfoldable pub code : Bool → Bool → ℕ
 code ok side = cond ok (bit side) 16
 
-unfoldable pub code_of : Sample → Float → ℕ
+unfoldable pub code_of : Option Float → Float → ℕ
 code_of x h = code (is_there x) (is_below x h)
 
 unfoldable pub value_code : Float → Float → ℕ
-value_code v h = code_of (Value v) h
+value_code v h = code_of (Some v) h
 
 -- the eight corners of the cell at (u, v) of the first layer, in the order of their numbers
 unfoldable pub codes_of : Sides → List Float → Float → ℕ → ℕ → List ℕ

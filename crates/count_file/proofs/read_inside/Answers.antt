@@ -5,10 +5,10 @@ use Rattle.lines.proofs.Parts.{one-there, one_absent}
 use Rattle.count_file.specs.Inner.Heads.{there, left_out}
 use Rattle.count_file.proofs.read_inside.Goals as goal
 
-pub returns-in_default : goal.returns-in_default
+pub returns-in-Some : goal.returns-in-Some
 unfolding line_of ok_of
-returns-in_default c = left_out (one_absent _ _ _ c.requires (rw c.in_default.is at c.hex_line.ensures)) refl
+returns-in-Some c = there (one-there _ _ _ c.requires _ _ c.in-Some.ensures)
 
-pub returns : goal.returns
+pub returns-in-None : goal.returns-in-None
 unfolding line_of ok_of
-returns c = there (one-there _ _ _ c.requires _ _ (rw c.in-Got.is at c.hex_line.ensures))
+returns-in-None c = left_out (one_absent _ _ _ c.requires c.in-None.ensures) refl

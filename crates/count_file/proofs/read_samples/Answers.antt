@@ -1,48 +1,41 @@
--- `count_file::read_samples` meets its contract: what has been read are the first k lines. Assumes nothing.
+-- `count_file::read_samples` meets its contract: what has been read are the first lines. Assumes nothing.
 use Prim.Native.Nat.{◌<◌}
 use native.Mathlib.Omega.{arith}
 use mathlib.Core.Path.{◌≡◌}
-use mathlib.Core.List.{[]}
-use lib.ListN.{replicate, length, length-replicate, get_or-replicate}
+use mathlib.Core.List.{[], ◌++◌}
+use lib.ListN.{replicate, length, drop, length-replicate, get_or-replicate, length-append, take-append-drop}
+use lib.Seq.{length-take-le}
+use Rattle.std.proofs.lemmas.List.{set-get_or, set-append_left}
 use Rattle.lines.specs.Lines.{Dec, line_of, ok_of}
 use Rattle.count_file.specs.CountFile.{sample}
 use Rattle.lines.proofs.Runs.{run-start, run-turn, run-done}
 use Rattle.count_file.proofs.read_samples.Goals as goal
 
-pub loop-k-init : goal.loop-k-init
-loop-k-init c = run-start _ _ _ _ c.requires.0
+pub loop-place-init : goal.loop-place-init
+loop-place-init c = rw take-append-drop (run-start _ _ _ _ c.requires.0)
 
-pub hex_line-requires : goal.hex_line-requires
-hex_line-requires c = c.loop-k.invariant.reads.within
-
-pub returns-in_default : goal.returns-in_default
+pub returns-in_err-value : goal.returns-in_err-value
 unfolding line_of ok_of
-returns-in_default c = let n = c.args.n in
-    let h : c.loop-k.k < length (replicate n sample) = rw length-replicate c.loop-k-test.true in
-    let f = get_or-replicate n c.loop-k.k sample (Dec []) c.loop-k-test.true in
-    record { count = c.loop-k.k; place = c.loop-k.at; filled = c.loop-k.invariant; short = h; missing = rw f (rw c.in_default.is at c.hex_line.ensures) }
+returns-in_err-value c = let n = c.args.n in
+    let at = c.loop-place in
+    let t : at.place-index < n = omega (arith, length-take-le n c.args.out.now c.requires.1) in
+    let h : at.place-index < length (replicate n sample) = rw length-replicate t in
+    let f = get_or-replicate n at.place-index sample (Dec []) t in
+    rw (c.from_residual.ensures, set-get_or) (record { count = at.place-index; place = at.at; filled = at.invariant; short = h; missing = rw f c.in_err-value.ensures })
 
-pub offset_bounds-out-k : goal.offset_bounds-out-k
-offset_bounds-out-k c = omega arith
-
-pub bounds-out-k : goal.bounds-out-k
-bounds-out-k c = omega arith
-
-pub overflow_add-k : goal.overflow_add-k
-overflow_add-k c = omega arith
-
-pub loop-k-smaller : goal.loop-k-smaller
-loop-k-smaller c = omega arith
-
-pub loop-k-preserved : goal.loop-k-preserved
+pub loop-place-preserved : goal.loop-place-preserved
 unfolding line_of ok_of
-loop-k-preserved c = let n = c.args.n in
-    let h : c.loop-k.k < length (replicate n sample) = rw length-replicate c.loop-k-test.true in
-    let g : c.loop-k.k < length c.loop-k.out = omega (arith, c.loop-k.invariant.full, c.requires.1, c.loop-k-test.true) in
-    run-turn _ _ _ _ _ _ _ c.loop-k.invariant sample sample h g (get_or-replicate n c.loop-k.k sample sample c.loop-k-test.true) _ _ (rw c.in-Got.is at c.hex_line.ensures)
+loop-place-preserved c = let n = c.args.n in
+    let at = c.loop-place in
+    let t : at.place-index < n = omega (arith, length-take-le n c.args.out.now c.requires.1) in
+    let i : at.place-index < length at.place-items = omega arith in
+    let h : at.place-index < length (replicate n sample) = rw length-replicate t in
+    let g : at.place-index < length (at.place-items ++ drop n c.args.out.now) = rw length-append (omega arith) in
+    rw (← set-append_left at.place-items (drop n c.args.out.now) at.place-index c.in_ok-value.field-0.value i)
+    (run-turn _ _ _ _ _ _ _ at.invariant sample sample h g (get_or-replicate n at.place-index sample sample t) _ _ c.in_ok-value.ensures)
 
 pub returns : goal.returns
-returns c = let at = c.loop-k in
+returns c = let at = c.loop-place in
     let n = c.args.n in
-    let e : at.k ≡ n = omega (arith, at.invariant.some, length-replicate n sample, c.loop-k-test.false) in
-    record { reads = run-done _ _ _ _ _ _ _ at.invariant n (length-replicate n sample) c.loop-k-test.false; past = rw e at at.invariant.past; full = at.invariant.full }
+    let e : at.place-index ≡ n = omega (arith, length-take-le n c.args.out.now c.requires.1) in
+    record { reads = run-done _ _ _ _ _ _ _ at.invariant n (length-replicate n sample) (omega arith); past = rw e at at.invariant.past; full = at.invariant.full }

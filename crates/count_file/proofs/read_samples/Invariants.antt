@@ -1,12 +1,9 @@
--- The invariant and the measure of each loop of `count_file::read_samples`. Assumes nothing.
-use Prim.Native.Nat.{◌-◌}
-use lib.ListN.{replicate}
+-- The invariant of the loop of `count_file::read_samples`: of the whole list, of which the first n places are walked. Assumes nothing.
+use mathlib.Core.List.{◌++◌}
+use lib.ListN.{replicate, drop}
 use Rattle.count_file.specs.CountFile.{sample}
 use Rattle.lines.specs.Inner.Stored.{Filled}
 use Rattle.count_file.proofs.read_samples.Given as goal
 
-abbrev pub invariant-loop-k : goal.invariant-loop-k
-invariant-loop-k l = Filled (replicate l.n sample) l.s l.from l.initial.out l.out l.at l.k
-
-abbrev pub decreases-loop-k : goal.decreases-loop-k
-decreases-loop-k l = l.n - l.k
+abbrev pub invariant-loop-place : goal.invariant-loop-place
+invariant-loop-place l = Filled (replicate l.n sample) l.s l.from l.fn.out (l.place-items ++ drop l.n l.fn.out) l.at l.place-index

@@ -12,7 +12,7 @@ pub flag_sides-requires : goal.flag_sides-requires
 flag_sides-requires c = let t = c.args.tris.now in
     let r = c.args.room.now in
     let first = c.prepare in
-    let many = c.least in
+    let many = c.min in
     let l = first.new.room in (
       found_ready t r c.args.a c.requires.0 c.args.m c.args.m l first.ensures first.auto.room many.result many.ensures,
       λ k h. found-low t r c.args.a c.requires.0 c.args.m c.args.m l first.ensures first.auto.room many.result many.ensures _ (c.requires.2 k h) (c.requires.1 k h),
@@ -22,6 +22,6 @@ pub returns : goal.returns
 returns c = let t = c.args.tris.now in
     let r = c.args.room.now in
     let first = c.prepare in
-    let many = c.least in
+    let many = c.min in
     let call = c.flag_sides in
     record { found = call.ensures.value; flags = found-ends t r c.args.a c.requires.0 c.args.m c.args.m first.new.room first.ensures first.auto.room many.result many.ensures call.new.room call.ensures.room_after }

@@ -12,7 +12,7 @@ pub flag_corners-requires : goal.flag_corners-requires
 flag_corners-requires c = let t = c.args.tris.now in
     let r = c.args.room.now in
     let first = c.prepare in
-    let many = c.least in
+    let many = c.min in
     let l = first.new.room in (
       found_ready t r c.args.a c.requires.0 c.args.v c.args.m l first.ensures first.auto.room many.result many.ensures,
       λ k h. ((c.requires.1 k h).0, found-low t r c.args.a c.requires.0 c.args.v c.args.m l first.ensures first.auto.room many.result many.ensures _ (c.requires.2 k h) (c.requires.1 k h).1),
@@ -22,7 +22,7 @@ pub returns : goal.returns
 returns c = let t = c.args.tris.now in
     let r = c.args.room.now in
     let first = c.prepare in
-    let many = c.least in
+    let many = c.min in
     let call = c.flag_corners in
     let b = c.args.book.now in
     record {

@@ -1,59 +1,38 @@
 -- `decimals::read_natural` meets its contract. Assumes nothing.
-use native.Mathlib.Omega.{arith}
+use Rattle.std.proofs.Common.{◌∙◌, arith}
 use Rattle.decimals.proofs.Meaning.{natural_of}
-use Rattle.decimals.proofs.Reading.{none-empty, first-low, first_high, first-digit, stop-low, stop_high, stop-zero, stop_long, turn, done}
+use Rattle.decimals.proofs.Reading.{none-empty, first_other, first-digit, stop-other, stop-zero, stop_long, turn, done}
 use Rattle.decimals.proofs.read_natural.Goals as goal
 
-pub returns-then-s-eq0 : goal.returns-then-s-eq0
-returns-then-s-eq0 c = natural_of _ _ (none-empty _ c.if-s-eq0.true)
+pub returns-in_err-first : goal.returns-in_err-first
+returns-in_err-first c = natural_of _ _ (c.from_residual.ensures ∙ none-empty _ c.in_err-first.ensures.cases)
 
-pub bounds-s-0 : goal.bounds-s-0
-bounds-s-0 c = omega arith
+pub returns-in_err-n : goal.returns-in_err-n
+returns-in_err-n c = natural_of _ _ (c.from_residual-in_err-n.ensures ∙ first_other _ _ _ c.in_ok-first.ensures.cases.0 c.in_err-n.ensures)
 
-pub returns-then-first-lt48 : goal.returns-then-first-lt48
-returns-then-first-lt48 c = natural_of _ _ (first-low _ c.if-s-eq0.false c.if-first-lt48.true)
-
-pub returns-then-first-gt57 : goal.returns-then-first-gt57
-returns-then-first-gt57 c = natural_of _ _ (first_high _ c.if-s-eq0.false c.if-first-lt48.false c.if-first-gt57.true)
-
-pub loop-i-init : goal.loop-i-init
-loop-i-init c = first-digit _ c.if-s-eq0.false _ c.if-first-lt48.false c.if-first-gt57.false c.wide-n.ensures
-
-pub bounds-s-i : goal.bounds-s-i
-bounds-s-i c = omega arith
-
-pub returns-then-b-lt48 : goal.returns-then-b-lt48
-returns-then-b-lt48 c = natural_of _ _ (stop-low _ _ _ c.loop-i.invariant c.loop-i-test.true c.if-b-lt48.true)
-
-pub returns-then-b-gt57 : goal.returns-then-b-gt57
-returns-then-b-gt57 c = natural_of _ _ (stop_high _ _ _ c.loop-i.invariant c.loop-i-test.true c.if-b-lt48.false c.if-b-gt57.true)
+pub loop-b-init : goal.loop-b-init
+loop-b-init c = first-digit _ _ _ c.in_ok-first.ensures.cases.0 _ c.in_ok-n.ensures.0 c.in_ok-n.ensures.1
 
 pub returns-then-n-eq0 : goal.returns-then-n-eq0
-returns-then-n-eq0 c = natural_of _ _ (stop-zero _ _ _ c.loop-i.invariant c.loop-i-test.true c.if-b-lt48.false c.if-b-gt57.false (omega (arith, c.if-n-eq0.true)))
+returns-then-n-eq0 c = natural_of _ _ (stop-zero _ _ _ _ c.loop-b.invariant c.loop-b-test.true c.if-n-eq0.true)
 
-pub returns-then-n-gt1844674407370955161 : goal.returns-then-n-gt1844674407370955161
-returns-then-n-gt1844674407370955161 c = natural_of _ _ (stop_long _ _ _ c.loop-i.invariant c.loop-i-test.true c.if-b-lt48.false c.if-b-gt57.false (omega arith))
+pub returns-in_err-d : goal.returns-in_err-d
+returns-in_err-d c = natural_of _ _ (c.from_residual-in_err-d.ensures ∙ stop-other _ _ _ _ c.loop-b.invariant c.loop-b-test.true c.in_err-d.ensures)
 
-pub overflow_mul-t : goal.overflow_mul-t
-overflow_mul-t c = omega arith
+pub returns-in_err-checked_mul : goal.returns-in_err-checked_mul
+returns-in_err-checked_mul c =
+    natural_of _ _
+    (c.from_residual-in_err-checked_mul.ensures
+    ∙ stop_long _ _ _ _ c.loop-b.invariant c.loop-b-test.true c.in_ok-d.ensures.0 (λ g. c.in_err-checked_mul.ensures (omega arith)))
 
-pub overflow_sub-d : goal.overflow_sub-d
-overflow_sub-d c = omega (arith, c.wide-d.ensures, c.if-b-gt57.false)
+pub returns-in_err-n-2 : goal.returns-in_err-n-2
+returns-in_err-n-2 c =
+    natural_of _ _
+    (c.from_residual-in_err-n-2.ensures
+    ∙ stop_long _ _ _ _ c.loop-b.invariant c.loop-b-test.true c.in_ok-d.ensures.0 (λ g. c.in_err-n-2.ensures (omega (arith, c.in_ok-d.ensures.1, c.in_ok-checked_mul.ensures.1))))
 
-pub returns-then-d-t : goal.returns-then-d-t
-returns-then-d-t c = natural_of _ _ (stop_long _ _ _ c.loop-i.invariant c.loop-i-test.true c.if-b-lt48.false c.if-b-gt57.false (omega (arith, c.wide-d.ensures, c.if-b-gt57.false, c.if-d-t.true)))
-
-pub overflow_add-n : goal.overflow_add-n
-overflow_add-n c = omega (arith, c.wide-d.ensures, c.if-d-t.false)
-
-pub overflow_add-i : goal.overflow_add-i
-overflow_add-i c = omega arith
-
-pub loop-i-smaller : goal.loop-i-smaller
-loop-i-smaller c = omega arith
-
-pub loop-i-preserved : goal.loop-i-preserved
-loop-i-preserved c = turn _ _ _ c.loop-i.invariant c.loop-i-test.true c.if-b-lt48.false c.if-b-gt57.false _ (λ z. omega (arith, z, c.if-n-eq0.false)) (omega (arith, c.wide-d.ensures, c.if-b-gt57.false, c.if-d-t.false)) (omega (arith, c.wide-d.ensures))
+pub loop-b-preserved : goal.loop-b-preserved
+loop-b-preserved c = turn _ _ _ _ c.loop-b.invariant c.loop-b-test.true c.in_ok-d.ensures.0 _ c.if-n-eq0.false (omega (arith, c.in_ok-d.ensures.1, c.in_ok-checked_mul.ensures.1, c.in_ok-n-2.ensures.0)) (omega (arith, c.in_ok-d.ensures.1, c.in_ok-checked_mul.ensures.1, c.in_ok-n-2.ensures.1))
 
 pub returns : goal.returns
-returns c = natural_of _ _ (done _ _ _ c.loop-i.invariant c.loop-i-test.false)
+returns c = natural_of _ _ (done _ _ _ _ c.loop-b.invariant c.loop-b-test.false)

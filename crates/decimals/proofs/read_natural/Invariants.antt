@@ -1,11 +1,6 @@
--- The invariant and the measure of each loop of `decimals::read_natural`. Assumes nothing.
-use Prim.Native.Nat.{◌-◌}
-use lib.ListN.{length}
+-- The invariant of the loop of `decimals::read_natural`. Assumes nothing.
 use Rattle.decimals.proofs.Reading.{Sofar}
 use Rattle.decimals.proofs.read_natural.Given as goal
 
-abbrev pub invariant-loop-i : goal.invariant-loop-i
-invariant-loop-i l = Sofar l.s l.n l.i
-
-abbrev pub decreases-loop-i : goal.decreases-loop-i
-decreases-loop-i l = length l.s - l.i
+abbrev pub invariant-loop-b : goal.invariant-loop-b
+invariant-loop-b l = Sofar l.fn.s l.rest l.n l.b-index

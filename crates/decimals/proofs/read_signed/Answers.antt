@@ -1,32 +1,32 @@
 -- `decimals::read_signed` meets its contract. Assumes nothing.
-use native.Mathlib.Omega.{arith}
-use Rattle.decimals.proofs.Meaning.{of_natural, signed_of}
-use Rattle.decimals.proofs.Reading.{signed-empty, down-none, down-zero, down_far, down_fits, down-at, up_none, up_far, up_at}
+use Rattle.std.proofs.Common.{◌∙◌}
+use Rattle.decimals.proofs.Meaning.{downward, upward}
+use Rattle.decimals.proofs.Reading.{tried, down_zero, down_none, down_some, below, above}
 use Rattle.decimals.proofs.read_signed.Goals as goal
 
-pub returns-then-s-eq0 : goal.returns-then-s-eq0
-returns-then-s-eq0 c = signed_of _ _ (signed-empty _ c.if-s-eq0.true)
+pub returns-in_err-size : goal.returns-in_err-size
+unfolding downward
+returns-in_err-size c = let a = c.in-Some.ensures.cases in below _ _ _ _ a.0 a.1 c.in_err-size.ensures c.from_residual.ensures
 
-pub returns-in_default : goal.returns-in_default
-returns-in_default c = signed_of _ _ (down-none _ c.if-s-eq0.false c.if-s-eq45.true _ (of_natural _ c.read_natural.ensures) c.in_default.is)
+pub returns-in_err-checked_sub : goal.returns-in_err-checked_sub
+returns-in_err-checked_sub c =
+    let a = c.in-Some.ensures.cases in
+    below _ _ _ _ a.0 a.1 c.in_ok-size.ensures (c.from_residual-in_err-checked_sub.ensures ∙ down_zero _ c.in_err-checked_sub.ensures)
 
-pub returns-then-size-eq0 : goal.returns-then-size-eq0
-returns-then-size-eq0 c = signed_of _ _ (down-zero _ c.if-s-eq0.false c.if-s-eq45.true _ (of_natural _ c.read_natural.ensures) _ c.in-Is.is (omega (arith, c.if-size-eq0.true)))
+pub returns-in_err-m : goal.returns-in_err-m
+returns-in_err-m c =
+    let a = c.in-Some.ensures.cases in
+    below _ _ _ _ a.0 a.1 c.in_ok-size.ensures
+    (c.from_residual-in_err-m.ensures ∙ down_none _ _ c.in_ok-checked_sub.ensures (tried _ _ _ c.try_from.ensures c.in_err-m.ensures.value))
 
-pub returns-then-size-gt9223372036854775808 : goal.returns-then-size-gt9223372036854775808
-returns-then-size-gt9223372036854775808 c = signed_of _ _ (down_far _ c.if-s-eq0.false c.if-s-eq45.true _ (of_natural _ c.read_natural.ensures) _ c.in-Is.is (λ z. omega (arith, z, c.if-size-eq0.false, c.if-size-gt9223372036854775808.true)) (omega (arith, c.if-size-gt9223372036854775808.true)))
+pub returns-in-Some : goal.returns-in-Some
+returns-in-Some c =
+    let a = c.in-Some.ensures.cases in
+    below _ _ _ _ a.0 a.1 c.in_ok-size.ensures (down_some _ _ c.in_ok-checked_sub.ensures _ (tried _ _ _ c.try_from.ensures c.in_ok-m.ensures.value))
 
-pub overflow_sub-result : goal.overflow_sub-result
-overflow_sub-result c = down_fits _ c.if-size-gt9223372036854775808.false
-
-pub returns-then-s-eq45 : goal.returns-then-s-eq45
-returns-then-s-eq45 c = signed_of _ _ (down-at _ c.if-s-eq0.false c.if-s-eq45.true _ (of_natural _ c.read_natural.ensures) _ c.in-Is.is c.if-size-eq0.false c.if-size-gt9223372036854775808.false)
-
-pub returns-in_default-read_natural : goal.returns-in_default-read_natural
-returns-in_default-read_natural c = signed_of _ _ (up_none _ c.if-s-eq0.false c.if-s-eq45.false _ (of_natural _ c.read_natural-2.ensures) c.in_default-read_natural.is)
-
-pub returns-then-n-gt9223372036854775807 : goal.returns-then-n-gt9223372036854775807
-returns-then-n-gt9223372036854775807 c = signed_of _ _ (up_far _ c.if-s-eq0.false c.if-s-eq45.false _ (of_natural _ c.read_natural-2.ensures) _ c.in-Is-read_natural.is c.if-n-gt9223372036854775807.true)
+pub returns-in_err-n : goal.returns-in_err-n
+unfolding upward
+returns-in_err-n c = above _ _ _ c.in_default.ensures.cases c.in_err-n.ensures c.from_residual-in_err-n.ensures
 
 pub returns : goal.returns
-returns c = signed_of _ _ (up_at _ c.if-s-eq0.false c.if-s-eq45.false _ (of_natural _ c.read_natural-2.ensures) _ c.in-Is-read_natural.is c.if-n-gt9223372036854775807.false)
+returns c = above _ _ _ c.in_default.ensures.cases c.in_ok-n.ensures (tried _ _ _ c.try_from-2.ensures c.ok-2.ensures.value)

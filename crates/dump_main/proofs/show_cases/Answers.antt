@@ -4,5 +4,5 @@ use Rattle.dump_main.proofs.show_cases.Goals as goal
 
 pub site_cases-c-requires : goal.site_cases-c-requires
 site_cases-c-requires g c =
-    let fit = c.requires.0.fit in
-    (fit, rw c.coordinates-p.ensures (uvw_box c.args.n fit c.args.s c.requires.1), c.requires.0.samples)
+    let fit = c.args.field.now.sampled.fit in
+    (fit, rw c.coordinates-p.ensures (uvw_box c.args.field.now.sides fit c.args.s c.requires), c.args.field.now.sampled.samples)

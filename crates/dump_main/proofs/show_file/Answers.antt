@@ -1,5 +1,5 @@
 -- A build that is done has a sample for each site.
-use Rattle.std.proofs.Common.{arith, ◌≡◌, ◌≤◌, length, sym, ap, ◌∙◌}
+use Rattle.std.proofs.Common.{◌≡◌, ◌≤◌, length, sym, ap, ◌∙◌}
 use native.Mathlib.Nat.{le_of_eq}
 use Rattle.lattice.specs.Sites.{sites}
 use Rattle.marks.specs.Inner.Loops.{Sampled}
@@ -17,4 +17,4 @@ sampled o l l' a b z =
 
 pub dump-requires : goal.dump-requires
 dump-requires g c =
-    rw c.floats_of-samples.ensures (sampled _ _ _ _ (built-read c.build_file-built.ensures (λ e. omega (arith, e, c.if-answer-eq0.true))) c.if-answer-eq0.true)
+    rw c.floats_of-samples.ensures (sampled _ _ _ _ (built-read c.in-Some.file c.in-Some.is c.build_file-built.ensures) c.if-answer-eq0.true)

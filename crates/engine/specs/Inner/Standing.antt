@@ -1,5 +1,5 @@
 -- What stands in the lent lists between the stages of a build. Assumes nothing.
-use Rattle.std.specs.Prelude.{◌≡◌, Bool, true, false, List, [], ◌∷◌, ℕ, ◌*◌, ◌<◌, ◌≤◌, length, drop, Float}
+use Rattle.std.specs.Prelude.{◌≡◌, Option, IfNone, IfSome, OnSome, Bool, List, [], ◌∷◌, ℕ, ◌*◌, ◌<◌, ◌≤◌, length, drop, Float}
 use Rattle.std.proofs.lemmas.List.Edits.{sets}
 use Rattle.laws.specs.Couples.{Pair}
 use Rattle.laws.specs.Triangles.{flat}
@@ -15,7 +15,6 @@ use Rattle.rollback.specs.Inner.Rolling.{Holding}
 use Rattle.engine.specs.declared.Job.{Job}
 use Rattle.engine.specs.declared.Stand.{Stand}
 use Rattle.engine.specs.declared.Drawn.{Drawn}
-use Rattle.engine.specs.declared.Round.{Round}
 use Rattle.engine.specs.declared.Rolled.{Rolled}
 use Rattle.engine.specs.declared.Made.{Made}
 use Rattle.engine.specs.Engine.{Work, job_box, job_vertices}
@@ -63,11 +62,11 @@ pub record Stood (j : Job) (S : List Float) (c : Stand) (l : Work) : Type 0 wher
 
 module _ (j : Job) (S : List Float) (c : Stand) (l : Work) where
   -- round r: no owner, no round; else the rollback and its mesh
-  pub record Turned (x : Stood j S c l) (r : ℕ) (z : Round) (l' : Work) : Type 0 where
-    pub none : z.more ≡ false → owners (job_box j S) x.vertices ≡ []
-    pub same : z.more ≡ false → l' ≡ l
-    pub some : z.more ≡ true → (s : ℕ) × (os : List ℕ) × (owners (job_box j S) x.vertices ≡ s ∷ os)
-    pub stands : z.more ≡ true → Standing j S (rollback r (owners (job_box j S) x.vertices) x.vertices) l z.stand l'
+  pub record Turned (x : Stood j S c l) (r : ℕ) (z : Option Stand) (l' : Work) : Type 0 where
+    pub none : IfNone z (owners (job_box j S) x.vertices ≡ [])
+    pub same : IfNone z (l' ≡ l)
+    pub some : OnSome z ((s : ℕ) × (os : List ℕ) × (owners (job_box j S) x.vertices ≡ s ∷ os))
+    pub stands : IfSome z (λ d. Standing j S (rollback r (owners (job_box j S) x.vertices) x.vertices) l d l')
 
   -- all rounds of the job
   pub record Settled (x : Stood j S c l) (z : Rolled) (l' : Work) : Type 0 where
@@ -75,7 +74,7 @@ module _ (j : Job) (S : List Float) (c : Stand) (l : Work) where
     pub done : z.rounds ≡ rounds_done (job_box j S) j.rounds 1 x.vertices
 
   -- for all that may stand there
-  abbrev pub TurnedAll : ℕ → Round → Work → Type 0
+  abbrev pub TurnedAll : ℕ → Option Stand → Work → Type 0
   TurnedAll r z l' = (x : Stood j S c l) → Turned x r z l'
 
   abbrev pub SettledAll : Rolled → Work → Type 0

@@ -1,24 +1,33 @@
 -- `lines::hex_value` meets its contract. Assumes nothing.
+use Prim.Native.Nat.{◌+◌, ◌-◌}
+use native.Mathlib.Omega.{arith}
+use mathlib.Core.Path.{◌≡◌, ap}
 use borrow.Author.Tests.{lt-ltb, le-ltb}
+use Rattle.std.specs.Prelude.{Some}
 use Rattle.lines.specs.Inner.Readers.{hex_val}
 use Rattle.lines.proofs.hex_value.Goals as goal
 
-pub returns-then-b-lt48 : goal.returns-then-b-lt48
+pub returns-in-48-to-57 : goal.returns-in-48-to-57
 unfolding hex_val
-returns-then-b-lt48 c = rw (lt-ltb c.args.b 48 c.if-b-lt48.true)
+returns-in-48-to-57 c = let b = c.args.b in
+    rw (le-ltb b 48 (omega arith), lt-ltb b 58 (omega arith)) (ap Some c.from.ensures)
 
-pub returns-then-b-lt58 : goal.returns-then-b-lt58
+pub returns-in-97-to-102 : goal.returns-in-97-to-102
 unfolding hex_val
-returns-then-b-lt58 c = rw (le-ltb c.args.b 48 c.if-b-lt48.false, lt-ltb c.args.b 58 c.if-b-lt58.true) c.wide.ensures
+returns-in-97-to-102 c = let b = c.args.b in
+    let e : c.from-in-97-to-102.result + 10 ≡ b - 87 = omega (arith, c.from-in-97-to-102.ensures) in
+    rw (le-ltb b 48 (omega arith), le-ltb b 58 (omega arith), le-ltb b 97 (omega arith), lt-ltb b 103 (omega arith)) (ap Some e)
 
-pub returns-then-b-lt97 : goal.returns-then-b-lt97
+pub returns-in_default : goal.returns-in_default
 unfolding hex_val
-returns-then-b-lt97 c = let b = c.args.b in rw (le-ltb b 48 c.if-b-lt48.false, le-ltb b 58 c.if-b-lt58.false, lt-ltb b 97 c.if-b-lt97.true)
+returns-in_default c = rw (lt-ltb c.args.b 48 (omega arith))
 
-pub returns-then-b-lt103 : goal.returns-then-b-lt103
+pub returns-in_default-2 : goal.returns-in_default-2
 unfolding hex_val
-returns-then-b-lt103 c = let b = c.args.b in rw (le-ltb b 48 c.if-b-lt48.false, le-ltb b 58 c.if-b-lt58.false, le-ltb b 97 c.if-b-lt97.false, lt-ltb b 103 c.if-b-lt103.true) c.wide-then-b-lt103.ensures
+returns-in_default-2 c = let b = c.args.b in
+    rw (le-ltb b 48 (omega arith), le-ltb b 58 (omega arith), lt-ltb b 97 (omega arith))
 
-pub returns : goal.returns
+pub returns-in_default-3 : goal.returns-in_default-3
 unfolding hex_val
-returns c = let b = c.args.b in rw (le-ltb b 48 c.if-b-lt48.false, le-ltb b 58 c.if-b-lt58.false, le-ltb b 97 c.if-b-lt97.false, le-ltb b 103 c.if-b-lt103.false)
+returns-in_default-3 c = let b = c.args.b in
+    rw (le-ltb b 48 (omega arith), le-ltb b 58 (omega arith), le-ltb b 97 (omega arith), le-ltb b 103 (omega arith))

@@ -1,8 +1,7 @@
 -- What a reader answers, said by the printer alone: the value whose print stands at a place, and the place past it; or that there is none. Assumes nothing.
-use Rattle.std.specs.Prelude.{◌≡◌, Bool, true, false, ◌&&◌, cond, List, [], ◌∷◌, ◌++◌, ℕ, ◌+◌, ◌-◌, ◌≤◌, ltb, eqb, length, drop}
+use Rattle.std.specs.Prelude.{◌≡◌, Bool, true, false, ◌&&◌, cond, Option, Some, None, List, [], ◌∷◌, ◌++◌, ℕ, ◌+◌, ◌-◌, ◌≤◌, ltb, eqb, length, drop}
 use Rattle.lines.specs.Parts.{Part, Run, parts_text, PartsFine}
 use Rattle.lines.specs.declared.Num.{Num}
-use Rattle.lines.specs.declared.Num.TheVariants.{Bad, Got}
 
 -- at `at` stands what p prints of a, and `next` is past it
 pub record Reads {A : Type 0} (p : A → List ℕ) (ok : A → Type 0) (s : List ℕ) (at : ℕ) (a : A) (next : ℕ) : Type 0 where
@@ -16,9 +15,9 @@ pub record Absent {A : Type 0} (p : A → List ℕ) (ok : A → Type 0) (s : Lis
   pub none : (a : A) (rest : List ℕ) → ok a → drop at s ≡ p a ++ rest → ⊥
 
 -- the answer of a reader of one number
-abbrev pub Line : (p : ℕ → List ℕ) (ok : ℕ → Type 0) → List ℕ → ℕ → Num → Type 0
-Line p ok s at Bad = Absent p ok s at
-Line p ok s at (Got n next) = Reads p ok s at n next
+abbrev pub Line : (p : ℕ → List ℕ) (ok : ℕ → Type 0) → List ℕ → ℕ → Option Num → Type 0
+Line p ok s at None = Absent p ok s at
+Line p ok s at (Some a) = Reads p ok s at a.value a.next
 
 -- l begins with k
 unfoldable pub starts : List ℕ → List ℕ → Bool
@@ -26,9 +25,9 @@ starts [] l = true
 starts (k ∷ ks) [] = false
 starts (k ∷ ks) (b ∷ l) = eqb b k && starts ks l
 
--- the value of a hex digit, 16 for any other byte
-unfoldable pub hex_val : ℕ → ℕ
-hex_val b = cond (ltb b 48) 16 (cond (ltb b 58) (b - 48) (cond (ltb b 97) 16 (cond (ltb b 103) (b - 87) 16)))
+-- the value of a hex digit; no other byte has one
+unfoldable pub hex_val : ℕ → Option ℕ
+hex_val b = cond (ltb b 48) None (cond (ltb b 58) (Some (b - 48)) (cond (ltb b 97) None (cond (ltb b 103) (Some (b - 87)) None)))
 
 -- at `at` stands a header of the parts ps, of the values rs, and `next` is past it; or none stands there
 abbrev pub Have : List Part → List ℕ → ℕ → List Run → ℕ → Type 0

@@ -1,7 +1,5 @@
 -- A run of lines as it was read into a list: the whole of it, or the lines before the first one that is not there. Assumes nothing.
-use Rattle.std.specs.Prelude.{◌≡◌, List, [], ℕ, ◌≤◌, ◌<◌, length, drop, take, get_or}
-use Rattle.lines.specs.declared.Place.{Place}
-use Rattle.lines.specs.declared.Place.TheVariants.{Bad, At}
+use Rattle.std.specs.Prelude.{◌≡◌, Option, Some, None, List, [], ℕ, ◌≤◌, ◌<◌, length, drop, take, get_or}
 use Rattle.lines.specs.Lines.{Field, Dec, line_of, ok_of, lines, Fine}
 use Rattle.lines.specs.Inner.Readers.{Reads, Absent}
 
@@ -26,6 +24,6 @@ pub record Stopped (form : List Field) (s : List ℕ) (from : ℕ) (l l' : List 
   pub short : count < length form
   pub missing : Absent (line_of (get_or form count (Dec []))) (ok_of (get_or form count (Dec []))) s place
 
-abbrev pub RunOf : List Field → List ℕ → ℕ → ℕ → List ℕ → List ℕ → Place → Type 0
-RunOf form s from n l l' Bad = Stopped form s from l l'
-RunOf form s from n l l' (At next) = Stored form s from n l l' next
+abbrev pub RunOf : List Field → List ℕ → ℕ → ℕ → List ℕ → List ℕ → Option ℕ → Type 0
+RunOf form s from n l l' None = Stopped form s from l l'
+RunOf form s from n l l' (Some next) = Stored form s from n l l' next

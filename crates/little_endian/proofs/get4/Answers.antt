@@ -1,25 +1,8 @@
 -- `little_endian::get4` meets its contract. Assumes nothing.
+use mathlib.Core.Path.{◌∙◌}
 use native.Mathlib.Omega.{arith}
-use Rattle.little_endian.proofs.Bytes.{number-four}
+use Rattle.little_endian.proofs.Bytes.{number_copied}
 use Rattle.little_endian.proofs.get4.Goals as goal
 
-pub overflow_mul-result : goal.overflow_mul-result
-overflow_mul-result c = omega arith
-
-pub overflow_add-result : goal.overflow_add-result
-overflow_add-result c = omega arith
-
-pub overflow_mul-result-2 : goal.overflow_mul-result-2
-overflow_mul-result-2 c = omega arith
-
-pub overflow_add-result-2 : goal.overflow_add-result-2
-overflow_add-result-2 c = omega arith
-
-pub overflow_mul-result-3 : goal.overflow_mul-result-3
-overflow_mul-result-3 c = omega arith
-
-pub overflow_add-result-3 : goal.overflow_add-result-3
-overflow_add-result-3 c = omega arith
-
 pub returns : goal.returns
-returns c = omega (arith, number-four c.args.s.now c.args.at c.requires)
+returns c = (c.from_le_bytes.ensures ∙ number_copied 3 c.args.s.now _ c.args.at c.requires c.copy_from_slice.ensures.after, omega arith)

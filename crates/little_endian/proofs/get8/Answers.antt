@@ -1,7 +1,7 @@
 -- `little_endian::get8` meets its contract. Assumes nothing.
-use native.Mathlib.Omega.{arith}
-use Rattle.little_endian.proofs.Bytes.{number_eight}
+use mathlib.Core.Path.{◌∙◌}
+use Rattle.little_endian.proofs.Bytes.{number_copied}
 use Rattle.little_endian.proofs.get8.Goals as goal
 
 pub returns : goal.returns
-returns c = omega (arith, number_eight c.args.s.now c.args.at c.requires)
+returns c = c.from_le_bytes.ensures ∙ number_copied 7 c.args.s.now _ c.args.at c.requires c.copy_from_slice.ensures.after

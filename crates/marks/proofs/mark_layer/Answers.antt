@@ -2,7 +2,6 @@
 use native.Mathlib.Omega.{arith}
 use mathlib.Core.Path.{refl, sym, ◌∙◌}
 use Rattle.laws.proofs.Ranges.{fold-none, fold-turn, fold_done}
-use Rattle.marks.specs.Inner.Loops.{mark_row}
 use Rattle.marks.proofs.Rooms.{room_kept, rows_are}
 use Rattle.marks.proofs.mark_layer.Goals as goal
 

@@ -2,7 +2,7 @@
 use native.Mathlib.Omega.{arith}
 use mathlib.Core.Path.{refl, sym, ◌∙◌}
 use Rattle.laws.proofs.Ranges.{fold-none, fold-turn, fold_done}
-use Rattle.marks.specs.Inner.Loops.{mark_site, mark_row}
+use Rattle.marks.specs.Inner.Loops.{mark_row}
 use Rattle.marks.proofs.Rooms.{room_kept, row-site, row-box}
 use Rattle.marks.proofs.mark_row.Goals as goal
 

@@ -2,7 +2,7 @@
 use native.Mathlib.Omega.{arith}
 use mathlib.Core.Path.{refl, sym, ◌∙◌}
 use Rattle.laws.proofs.Ranges.{fold-none, fold-turn, fold_done}
-use Rattle.marks.specs.Inner.Loops.{mark_label, mark_site}
+use Rattle.marks.specs.Inner.Loops.{mark_site}
 use Rattle.marks.proofs.Rooms.{room_kept}
 use Rattle.marks.proofs.mark_site.Goals as goal
 

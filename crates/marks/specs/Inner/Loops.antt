@@ -1,15 +1,11 @@
 -- The marking as its loops do it: edge by edge, each crossed edge sets one bit at one of its ends. Assumes nothing.
-use Rattle.std.specs.Prelude.{cond, List, ◌++◌, ℕ, ◌+◌, ◌*◌, ◌-◌, ◌^◌, ◌≤◌, get_or, set, take, drop, length, replicate, Float}
+use Rattle.std.specs.Prelude.{cond, List, ◌++◌, ℕ, ◌+◌, ◌*◌, ◌-◌, ◌^◌, ◌≤◌, get_or, set, take, drop, length, replicate, Float, Option, None, Some}
 use Rattle.std.specs.Int.Bits.{bit_or}
 use Rattle.std.specs.Float.Ieee.{lt}
 use Rattle.laws.specs.Bools.{bit}
 use Rattle.laws.specs.Ranges.{fold, sum}
-use Rattle.samples.specs.declared.Crossing.{Crossing}
-use Rattle.samples.specs.declared.Crossing.TheVariants.{SameSide, At}
 use Rattle.samples.specs.Sides.{half, crossing}
 use Rattle.lattice.specs.declared.Sides.{Sides}
-use Rattle.lattice.specs.declared.OtherEnd.{OtherEnd}
-use Rattle.lattice.specs.declared.OtherEnd.TheVariants as end
 use Rattle.lattice.specs.Sites.{SidesFit, sites}
 use Rattle.lattice.specs.Across.{across_of}
 use Rattle.marks.specs.Marks.{sample, is_crossed}
@@ -18,13 +14,13 @@ unfoldable pub set_bit : List ℕ → ℕ → ℕ → List ℕ
 set_bit m at b = set m at (bit_or (get_or m at 0) (2 ^ b))
 
 -- the owned edge l from site s to site t
-unfoldable pub mark_crossing : ℕ → ℕ → ℕ → Crossing → List ℕ → List ℕ
-mark_crossing s t l SameSide m = m
-mark_crossing s t l (At f) m = cond (lt f half) (set_bit m s l) (set_bit m t (l + 7))
+unfoldable pub mark_crossing : ℕ → ℕ → ℕ → Option Float → List ℕ → List ℕ
+mark_crossing s t l None m = m
+mark_crossing s t l (Some f) m = cond (lt f half) (set_bit m s l) (set_bit m t (l + 7))
 
-unfoldable pub mark_to : List Float → Float → ℕ → ℕ → OtherEnd → List ℕ → List ℕ
-mark_to S h s l end.Missing m = m
-mark_to S h s l (end.At t) m = mark_crossing s t l (crossing (sample S s) (sample S t) h) m
+unfoldable pub mark_to : List Float → Float → ℕ → ℕ → Option ℕ → List ℕ → List ℕ
+mark_to S h s l None m = m
+mark_to S h s l (Some t) m = mark_crossing s t l (crossing (sample S s) (sample S t) h) m
 
 unfoldable pub mark_label : Sides → List Float → Float → ℕ → ℕ → List ℕ → List ℕ
 mark_label n S h s l m = mark_to S h s l (across_of n s l) m

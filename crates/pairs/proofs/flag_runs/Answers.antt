@@ -13,21 +13,6 @@ use Rattle.pairs.proofs.flag_runs.Goals as goal
 pub loop-i-init : goal.loop-i-init
 loop-i-init c = (refl, omega arith, refl, walked_none (recs c.args.s.now))
 
-pub overflow_mul-w : goal.overflow_mul-w
-overflow_mul-w c = omega arith
-
-pub offset_bounds-s-w : goal.offset_bounds-s-w
-offset_bounds-s-w c = omega arith
-
-pub slice_bounds-flag_run-count : goal.slice_bounds-flag_run-count
-slice_bounds-flag_run-count c = omega arith
-
-pub slice_bounds-flag_run-start : goal.slice_bounds-flag_run-start
-slice_bounds-flag_run-start c = omega arith
-
-pub slice_bounds-flag_run-end : goal.slice_bounds-flag_run-end
-slice_bounds-flag_run-end c = omega arith
-
 pub flag_run-i-requires : goal.flag_run-i-requires
 flag_run-i-requires c = let l = c.loop-i in
     let s₀ = c.args.s.now in (

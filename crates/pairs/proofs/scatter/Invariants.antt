@@ -1,13 +1,8 @@
--- The invariant and the measure of each loop of `pairs::scatter`. Assumes nothing.
-use mathlib.Core.Path.{◌≡◌}
-use Prim.Native.Nat.{◌-◌, ◌/◌, ◌≤◌}
-use lib.ListN.{length}
+-- The invariant of the loop of `pairs::scatter`: after j turns the list is `fold sent j` of what it was. Assumes nothing.
+use Rattle.std.proofs.Common.{◌≡◌}
 use Rattle.laws.specs.Ranges.{fold}
 use Rattle.pairs.specs.Inner.Flags.{sent}
 use Rattle.pairs.proofs.scatter.Given as goal
 
 abbrev pub invariant-loop-j : goal.invariant-loop-j
-invariant-loop-j l = (l.n ≡ length l.initial.s / 3) × (l.j ≤ l.n) × (length l.s ≡ length l.initial.s) × (l.s ≡ fold sent l.j l.initial.s)
-
-abbrev pub decreases-loop-j : goal.decreases-loop-j
-decreases-loop-j l = l.n - l.j
+invariant-loop-j l = l.s ≡ fold sent l.j l.initial.s

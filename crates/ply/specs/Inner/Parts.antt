@@ -1,12 +1,11 @@
 -- The parts of a PLY file, as the private functions answer them on the way. Assumes nothing.
-use Rattle.std.specs.Prelude.{◌≡◌, List, [], ◌∷◌, ◌++◌, ℕ, ◌+◌, ◌*◌, ◌≤◌, ◌<◌, length, drop, get_or}
+use Rattle.std.specs.Prelude.{◌≡◌, List, [], ◌∷◌, ◌++◌, ℕ, ◌+◌, ◌*◌, ◌≤◌, ◌<◌, length, drop, get_or, Option, Some, None, Result, Ok, Err}
 use Rattle.laws.specs.Ranges.{each}
 use Rattle.lines.specs.Lines.{Small}
 use Rattle.little_endian.specs.Bytes.{number_at}
 use Rattle.ply.specs.declared.Head.{Head}
-use Rattle.ply.specs.declared.Head.TheVariants.{Bad, Got}
 use Rattle.ply.specs.declared.Found.{Found}
-use Rattle.ply.specs.declared.Found.TheVariants.{Refused, Good}
+use Rattle.ply.specs.declared.Refusal.{Refusal}
 use Rattle.ply_write.specs.Form.{head_text, Headed, PlyFile}
 use Rattle.ply.specs.Answers.{Unread, Unstored}
 
@@ -17,9 +16,9 @@ pub record HeaderAt (s : List ℕ) (v f next : ℕ) : Type 0 where
   pub here : s ≡ head_text v f ++ drop next s
   pub past : next ≡ length (head_text v f)
 
-abbrev pub HeadOf : List ℕ → Head → Type 0
-HeadOf s Bad = Headed s → ⊥
-HeadOf s (Got v f next) = HeaderAt s v f next
+abbrev pub HeadOf : List ℕ → Option Head → Type 0
+HeadOf s None = Headed s → ⊥
+HeadOf s (Some h) = HeaderAt s h.vertices h.faces h.next
 
 -- the words and the indices that stand from a place on
 unfoldable pub words_in : List ℕ → ℕ → ℕ → List ℕ
@@ -54,9 +53,9 @@ pub record Whole (s : List ℕ) (v f next : ℕ) : Type 0 where
   pub small_f : Small f
 
 -- what is found in a file before anything is stored
-abbrev pub LookOf : List ℕ → Found → Type 0
-LookOf s (Refused n) = Unread s n
-LookOf s (Good v f next) = Whole s v f next
+abbrev pub LookOf : List ℕ → Result Found Refusal → Type 0
+LookOf s (Err e) = Unread s e
+LookOf s (Ok x) = Whole s x.counts.vertices x.counts.faces x.next
 
 -- and what is found where there are a places for words and b for indices
 pub record Placed (s : List ℕ) (a b v f next : ℕ) : Type 0 where
@@ -64,6 +63,6 @@ pub record Placed (s : List ℕ) (a b v f next : ℕ) : Type 0 where
   pub words : v * 3 ≤ a
   pub triangles : f * 3 ≤ b
 
-abbrev pub FindOf : List ℕ → ℕ → ℕ → Found → Type 0
-FindOf s a b (Refused n) = Unstored s a b n
-FindOf s a b (Good v f next) = Placed s a b v f next
+abbrev pub FindOf : List ℕ → ℕ → ℕ → Result Found Refusal → Type 0
+FindOf s a b (Err e) = Unstored s a b e
+FindOf s a b (Ok x) = Placed s a b x.counts.vertices x.counts.faces x.next

@@ -2,11 +2,11 @@
 use native.Mathlib.Omega.{arith}
 use mathlib.Core.Path.{refl, sym}
 use lib.Seq.{length-take-le}
-use Rattle.ply_file.proofs.Texts.{drawn_refused, mesh, drawn_done}
+use Rattle.ply_file.proofs.Texts.{drawn_refused, mesh, drawn_whole, drawn_done}
 use Rattle.ply_file.proofs.ply_text.Goals as goal
 
 pub returns-then-status-ne0 : goal.returns-then-status-ne0
-returns-then-status-ne0 c = drawn_refused _ _ _ _ refl c.build_file-built.ensures c.if-status-ne0.true _ _ _ c.put_status-arg-1.given.0.1 c.put_status.ensures
+returns-then-status-ne0 c = drawn_refused _ _ _ _ refl c.build_file-built.ensures c.if-status-ne0.true _ _ _ c.told-out c.put_status.ensures
 
 pub overflow_mul-v : goal.overflow_mul-v
 overflow_mul-v c = omega (arith, (mesh _ _ _ _ refl c.build_file-built.ensures c.if-status-ne0.false).few_vertices)
@@ -28,5 +28,8 @@ pub slice_bounds-write_mesh-end-2 : goal.slice_bounds-write_mesh-end-2
 slice_bounds-write_mesh-end-2 c = sym (length-take-le _ _ ((
     (mesh _ _ _ _ refl c.build_file-built.ensures c.if-status-ne0.false).room_triangles)))
 
+pub unwrap-requires : goal.unwrap-requires
+unwrap-requires c = drawn_whole _ _ _ _ refl c.build_file-built.ensures c.if-status-ne0.false _ _ _ c.told-out c.write_mesh.ensures
+
 pub returns : goal.returns
-returns c = drawn_done _ _ _ _ refl c.build_file-built.ensures c.if-status-ne0.false _ _ _ c.write_mesh-arg-1.given.0.1 c.write_mesh-wrote.ensures
+returns c = drawn_done _ _ _ _ refl c.build_file-built.ensures c.if-status-ne0.false _ _ _ c.told-out c.write_mesh.ensures _ c.unwrap.ensures

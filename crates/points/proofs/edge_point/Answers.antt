@@ -1,4 +1,5 @@
 -- `points::edge_point` meets its contract. Assumes nothing.
+use Rattle.std.specs.Prelude.{Some}
 use mathlib.Core.Path.{◌≡◌, sym, ◌∙◌}
 use mathlib.Core.Bool.{true}
 use lib.Ieee.{Float}
@@ -6,13 +7,12 @@ use Rattle.samples.specs.Sides.{finite, point_fraction}
 use Rattle.lattice.specs.declared.Ijk.{Ijk}
 use Rattle.points.specs.declared.Point.{Point}
 use Rattle.points.specs.declared.Frame.{Frame}
-use Rattle.points.specs.declared.EdgePoint.TheVariants.{At}
 use Rattle.points.specs.Positions.{position}
 use Rattle.points.specs.EdgePoints.{interpolate, edge_point}
 use Rattle.points.proofs.edge_point.Goals as goal
 
 met : (f : Frame) (a b : Ijk) (p q : Float) (x y : Point) (t : Float) (r : Point) → finite p ≡ true → finite q ≡ true
-    → x ≡ position f a → y ≡ position f b → t ≡ point_fraction p q → r ≡ interpolate x y t → At r ≡ edge_point f a b p q
+    → x ≡ position f a → y ≡ position f b → t ≡ point_fraction p q → r ≡ interpolate x y t → Some r ≡ edge_point f a b p q
 unfolding edge_point
 met f a b p q x y t r g h d e k m = rw (g, h, m, d, e, k)
 

@@ -1,9 +1,8 @@
 -- `sample_view::entry_at` meets its contract. Assumes nothing.
-use Rattle.sample_view.proofs.Lookups.{entry_there, entry_past}
+use Rattle.std.proofs.Common.{rules}
+use Rattle.sample_view.specs.View.{entry_at}
 use Rattle.sample_view.proofs.entry_at.Goals as goal
 
-pub returns-then-s-samples : goal.returns-then-s-samples
-returns-then-s-samples c = let a = c.args in entry_there a.samples.now a.s c.if-s-samples.true
-
-pub returns-else-s-samples : goal.returns-else-s-samples
-returns-else-s-samples c = let a = c.args in entry_past a.samples.now a.s c.if-s-samples.false
+pub returns : goal.returns
+unfolding entry_at
+returns c = search rules

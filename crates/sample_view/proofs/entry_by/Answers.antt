@@ -1,10 +1,10 @@
 -- `sample_view::entry_by` meets its contract. Assumes nothing.
-use Rattle.sample_view.proofs.Lookups.{by_found, by_none}
+use Rattle.std.proofs.Common.{◌∙◌}
+use Rattle.sample_view.proofs.Lookups.{by_none, by_found}
 use Rattle.sample_view.proofs.entry_by.Goals as goal
 
-pub returns-in-Missing : goal.returns-in-Missing
-returns-in-Missing c = let a = c.args in by_none a.samples.now a.end c.in-Missing.is
+pub returns-in_err-end : goal.returns-in_err-end
+returns-in_err-end c = c.from_residual.ensures ∙ by_none c.args.samples.now c.args.end c.in_err-end.was
 
-pub returns-in-At : goal.returns-in-At
-returns-in-At c = let a = c.args in
-    by_found a.samples.now a.end c.in-At.t _ c.in-At.is c.entry_at.ensures
+pub returns : goal.returns
+returns c = by_found c.args.samples.now c.args.end c.in_ok-end.field-0 _ c.in_ok-end.was c.entry_at.ensures

@@ -11,12 +11,12 @@ offset_bounds-table-k c = omega (arith, c.edge_place-k.ensures, place-low c.args
 pub bounds-table-k : goal.bounds-table-k
 bounds-table-k c = omega (arith, c.edge_place-k.ensures, place-low c.args.n c.args.s c.args.e c.requires.0.low c.requires.1, c.requires.0.table)
 
-pub returns-in-Missing : goal.returns-in-Missing
-returns-in-Missing c = let a = c.args in
-    edge_none a.frame a.n a.samples.now a.s a.id a.e a.table.now a.sum (sym c.place_of-place.ensures ∙ c.in-Missing.is)
+pub returns-in-None : goal.returns-in-None
+returns-in-None c = let a = c.args in
+    edge_none a.frame a.n a.samples.now a.s a.id a.e a.table.now a.sum (sym c.place_of-place.ensures ∙ c.in-None.is)
 
-pub returns-in-At : goal.returns-in-At
-returns-in-At c = let a = c.args in
+pub returns-in-Some : goal.returns-in-Some
+returns-in-Some c = let a = c.args in
     let k = c.edge_place-k in
-    let d = edge-some a.frame a.n a.samples.now a.s a.id a.e a.table.now a.sum c.in-At.p k.result (sym c.place_of-place.ensures ∙ c.in-At.is) k.ensures in
+    let d = edge-some a.frame a.n a.samples.now a.s a.id a.e a.table.now a.sum c.in-Some.p k.result (sym c.place_of-place.ensures ∙ c.in-Some.is) k.ensures in
     record { sum = c.with_point.ensures ∙ d.sum; table = d.table }

@@ -3,10 +3,10 @@ use Rattle.std.proofs.Common.{sym, ap, ◌∙◌}
 use Rattle.samples.specs.Sides.{known}
 use Rattle.topology.proofs.endpoint_value.Goals as goal
 
-pub returns-in-Missing : goal.returns-in-Missing
+pub returns-in_err-end : goal.returns-in_err-end
 unfolding known
-returns-in-Missing c = sym (ap known c.in-Missing.is)
+returns-in_err-end c = c.from_residual.ensures ∙ sym (ap known c.in_err-end.was)
 
-pub returns-in-Value : goal.returns-in-Value
+pub returns : goal.returns
 unfolding known
-returns-in-Value c = c.finite_sample.ensures ∙ sym (ap known c.in-Value.is)
+returns c = c.finite_sample.ensures ∙ sym (ap known c.in_ok-end.was)

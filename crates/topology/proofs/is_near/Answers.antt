@@ -2,10 +2,10 @@
 use Rattle.samples.specs.Sides.{is_near}
 use Rattle.topology.proofs.is_near.Goals as goal
 
-pub returns-in-SameSide : goal.returns-in-SameSide
+pub returns-in-None : goal.returns-in-None
 unfolding is_near
-returns-in-SameSide c = rw (← c.crossing_alpha-c.ensures, c.in-SameSide.is)
+returns-in-None c = rw (← c.crossing_alpha-c.ensures, c.in-None.is)
 
-pub returns-in-At : goal.returns-in-At
+pub returns-in-Some : goal.returns-in-Some
 unfolding is_near
-returns-in-At c = rw (← c.crossing_alpha-c.ensures, c.in-At.is)
+returns-in-Some c = rw (← c.crossing_alpha-c.ensures, c.in-Some.is)

@@ -6,8 +6,5 @@ use Rattle.units.proofs.above.Goals as goal
 pub returns-then-a-n : goal.returns-then-a-n
 returns-then-a-n c = at-plus (pos c.args.n) (neg_ℤ (pos c.args.a)) _ (sum-up c.args.n c.args.a) (omega arith)
 
-pub returns-else-a-n : goal.returns-else-a-n
-returns-else-a-n c = far_plus (pos c.args.n) (neg_ℤ (pos c.args.a)) (c.args.n + c.args.a) (sum-up c.args.n c.args.a) (omega arith)
-
-pub returns-else-n-le-MOST : goal.returns-else-n-le-MOST
-returns-else-n-le-MOST c = far_plus (pos c.args.n) (neg_ℤ (pos c.args.a)) (c.args.n + c.args.a) (sum-up c.args.n c.args.a) (omega arith)
+pub returns : goal.returns
+returns c = far_plus (pos c.args.n) (neg_ℤ (pos c.args.a)) (c.args.n + c.args.a) (sum-up c.args.n c.args.a) (omega arith)

@@ -9,8 +9,5 @@ overflow_sub-result c = minus_fits (c.args.n + c.args.a) (omega arith)
 pub returns-then-a-n : goal.returns-then-a-n
 returns-then-a-n c = at-minus (neg_ℤ (pos c.args.n)) (pos c.args.a) (c.args.n + c.args.a) (sum-down c.args.n c.args.a) (omega arith)
 
-pub returns-else-a-n : goal.returns-else-a-n
-returns-else-a-n c = far_minus (neg_ℤ (pos c.args.n)) (pos c.args.a) (c.args.n + c.args.a) (sum-down c.args.n c.args.a) (omega arith)
-
-pub returns-else-n-le-MOST : goal.returns-else-n-le-MOST
-returns-else-n-le-MOST c = far_minus (neg_ℤ (pos c.args.n)) (pos c.args.a) (c.args.n + c.args.a) (sum-down c.args.n c.args.a) (omega arith)
+pub returns : goal.returns
+returns c = far_minus (neg_ℤ (pos c.args.n)) (pos c.args.a) (c.args.n + c.args.a) (sum-down c.args.n c.args.a) (omega arith)

@@ -1,31 +1,37 @@
 -- `vertex_pass::draw_site` meets its contract. Assumes nothing.
 use Rattle.vertex_pass.proofs.Passing.{passing_start, passing_turn, passing_done, ahead_turn}
-use Rattle.vertex_pass.specs.Inner.Passing.{candidate_of, flag_of}
+use Rattle.vertex_pass.specs.Inner.Passing.{candidate_of, flag_of, Passed, Ahead}
+use Rattle.std.proofs.Common.{◌<◌, ◌≤◌, ℕ, sym, subst, arith}
+use Rattle.std.proofs.lemmas.List.{get_or-take, length-take-le}
 use lib.ListN.{get_or}
-use native.Mathlib.Omega.{arith}
 use Rattle.vertex_pass.proofs.draw_site.Goals as goal
 
-pub loop-c-init : goal.loop-c-init
-loop-c-init c = let a = c.args in passing_start a.frame a.n a.samples.now (flag_of a.flags.now) (λ x. candidate_of a.n a.samples.now a.s (get_or a.clusters.masks x 0)) a.at a.table.now a.positions.now a.book.now a.clusters.count
+pub loop-mask-init : goal.loop-mask-init
+loop-mask-init c = let a = c.args in passing_start a.frame a.n a.samples.now (flag_of a.flags.now) (λ x. candidate_of a.n a.samples.now a.s (get_or a.clusters.masks x 0)) a.at a.table.now a.positions.now a.book.now a.clusters.count
 
-pub draw_vertex-now-requires : goal.draw_vertex-now-requires
-draw_vertex-now-requires c = let a = c.args in
-    let at = c.loop-c in
-    record { drawable = record { sampled = c.requires.drawable.0.sampled; low = c.requires.drawable.0.low; table = omega (arith, c.requires.drawable.0.table, at.invariant.long) }; ahead = ahead_turn a.frame a.n a.samples.now (flag_of a.flags.now) (λ x. candidate_of a.n a.samples.now a.s (get_or a.clusters.masks x 0)) at.c a.clusters.count c.requires.ahead c.loop-c-test.true at.invariant.done }
+pub draw_vertex-now-requires-clause-ahead : goal.draw_vertex-now-requires-clause-ahead
+draw_vertex-now-requires-clause-ahead c = let a = c.args in
+    let at = c.loop-mask in
+    let i = at.mask-index in
+    let q = flag_of a.flags.now in
+    let g : ℕ → _ = λ x. candidate_of a.n a.samples.now a.s (get_or a.clusters.masks x 0) in
+    let h : i < a.clusters.count = omega (arith, c.loop-mask-test.true, length-take-le a.clusters.count a.clusters.masks (omega arith)) in
+    subst (λ (m : ℕ). Ahead q (candidate_of a.n a.samples.now a.s m) at.now at.positions at.book) (sym (get_or-take a.clusters.count a.clusters.masks i 0 h))
+    (ahead_turn a.frame a.n a.samples.now q g i a.clusters.count c.requires.ahead h at.invariant.done)
 
-pub overflow_step-c : goal.overflow_step-c
-overflow_step-c c = omega arith
-
-pub loop-c-smaller : goal.loop-c-smaller
-loop-c-smaller c = omega arith
-
-pub loop-c-preserved : goal.loop-c-preserved
-loop-c-preserved c = let a = c.args in
-    let at = c.loop-c in
+pub loop-mask-preserved : goal.loop-mask-preserved
+loop-mask-preserved c = let a = c.args in
+    let at = c.loop-mask in
+    let i = at.mask-index in
+    let q = flag_of a.flags.now in
     let call = c.draw_vertex-now in
-    passing_turn a.frame a.n a.samples.now (flag_of a.flags.now) (λ x. candidate_of a.n a.samples.now a.s (get_or a.clusters.masks x 0)) a.at a.table.now a.positions.now a.book.now a.clusters.count at.c at.now call.result at.table _ at.positions _ at.book _ at.invariant c.loop-c-test.true call.ensures call.auto.table
+    let h : i < a.clusters.count = omega (arith, c.loop-mask-test.true, length-take-le a.clusters.count a.clusters.masks (omega arith)) in
+    passing_turn a.frame a.n a.samples.now q (λ x. candidate_of a.n a.samples.now a.s (get_or a.clusters.masks x 0)) a.at a.table.now a.positions.now a.book.now a.clusters.count i at.now call.result at.table _ at.positions _ at.book _ at.invariant h
+    (subst (λ (m : ℕ). Passed a.frame a.n a.samples.now q (candidate_of a.n a.samples.now a.s m) at.now at.table at.positions at.book call.result call.new.table call.new.positions call.new.book) (get_or-take a.clusters.count a.clusters.masks i 0 h) call.ensures)
+    call.auto.table
 
 pub returns : goal.returns
 returns c = let a = c.args in
-    let at = c.loop-c in
-    passing_done a.frame a.n a.samples.now (flag_of a.flags.now) (λ x. candidate_of a.n a.samples.now a.s (get_or a.clusters.masks x 0)) a.at a.table.now a.positions.now a.book.now a.clusters.count at.c at.now at.table at.positions at.book at.invariant c.loop-c-test.false
+    let at = c.loop-mask in
+    let h : a.clusters.count ≤ at.mask-index = omega (arith, c.loop-mask-test.false, length-take-le a.clusters.count a.clusters.masks (omega arith)) in
+    passing_done a.frame a.n a.samples.now (flag_of a.flags.now) (λ x. candidate_of a.n a.samples.now a.s (get_or a.clusters.masks x 0)) a.at a.table.now a.positions.now a.book.now a.clusters.count at.mask-index at.now at.table at.positions at.book at.invariant h

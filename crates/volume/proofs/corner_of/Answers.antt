@@ -1,27 +1,28 @@
 -- `volume::corner_of` meets its contract. Assumes nothing.
-use Prim.Native.Nat.{◌+◌, ◌*◌}
+use Rattle.std.proofs.Common.{◌∙◌, arith}
 use Rattle.volume.specs.Volume.{scaled}
-use Rattle.volume.proofs.Corners.{Got, got, corner-one, corner-two, corner-three, corner_in}
+use Rattle.volume.proofs.Corners.{got, corner-one, corner-two, corner-three, corner_in}
 use Rattle.volume.proofs.corner_of.Goals as goal
 
-pub returns-in_default : goal.returns-in_default
+pub returns-in_err-x : goal.returns-in_err-x
 unfolding scaled
-returns-in_default c = corner-one c.args.positions.now c.args.scale c.args.v c.args.ox c.args.oy c.args.oz c.ranges.ox c.coordinate_of.result c.coordinate_of.ensures c.in_default.is
+returns-in_err-x c = c.from_residual.ensures ∙ corner-one _ _ _ _ (record { sfits = omega arith }) c.in_err-x.ensures
 
-pub returns-in_default-coordinate_of : goal.returns-in_default-coordinate_of
+pub returns-in_err-y : goal.returns-in_err-y
 unfolding scaled
-returns-in_default-coordinate_of c = corner-two c.args.positions.now c.args.scale c.args.v c.args.ox c.args.oy c.args.oz (let the_first : Got (scaled c.args.positions.now c.args.scale (3 * c.args.v)) c.args.ox c.in-At.x =
-    got (scaled c.args.positions.now c.args.scale (3 * c.args.v)) c.args.ox c.ranges.ox c.coordinate_of.result c.coordinate_of.ensures c.in-At.x c.in-At.is in the_first) c.ranges.oy c.coordinate_of-2.result c.coordinate_of-2.ensures c.in_default-coordinate_of.is
+returns-in_err-y c =
+    c.from_residual-in_err-y.ensures
+    ∙ corner-two _ _ _ _ (got _ _ (record { sfits = omega arith }) _ c.in_ok-x.ensures) (record { sfits = omega arith }) c.in_err-y.ensures
 
-pub returns-in_default-coordinate_of-2 : goal.returns-in_default-coordinate_of-2
+pub returns-in_err-z : goal.returns-in_err-z
 unfolding scaled
-returns-in_default-coordinate_of-2 c = corner-three c.args.positions.now c.args.scale c.args.v c.args.ox c.args.oy c.args.oz (let the_first : Got (scaled c.args.positions.now c.args.scale (3 * c.args.v)) c.args.ox c.in-At.x =
-    got (scaled c.args.positions.now c.args.scale (3 * c.args.v)) c.args.ox c.ranges.ox c.coordinate_of.result c.coordinate_of.ensures c.in-At.x c.in-At.is in the_first) (let the_second : Got (scaled c.args.positions.now c.args.scale (3 * c.args.v + 1)) c.args.oy c.in-At-coordinate_of.y =
-    got (scaled c.args.positions.now c.args.scale (3 * c.args.v + 1)) c.args.oy c.ranges.oy c.coordinate_of-2.result c.coordinate_of-2.ensures c.in-At-coordinate_of.y c.in-At-coordinate_of.is in the_second) c.ranges.oz c.coordinate_of-3.result c.coordinate_of-3.ensures c.in_default-coordinate_of-2.is
+returns-in_err-z c =
+    c.from_residual-in_err-z.ensures
+    ∙ corner-three _ _ _ _ (got _ _ (record { sfits = omega arith }) _ c.in_ok-x.ensures) (got _ _ (record { sfits = omega arith }) _ c.in_ok-y.ensures)
+    (record { sfits = omega arith }) c.in_err-z.ensures
 
 pub returns : goal.returns
 unfolding scaled
-returns c = corner_in c.args.positions.now c.args.scale c.args.v c.args.ox c.args.oy c.args.oz (let the_first : Got (scaled c.args.positions.now c.args.scale (3 * c.args.v)) c.args.ox c.in-At.x =
-    got (scaled c.args.positions.now c.args.scale (3 * c.args.v)) c.args.ox c.ranges.ox c.coordinate_of.result c.coordinate_of.ensures c.in-At.x c.in-At.is in the_first) (let the_second : Got (scaled c.args.positions.now c.args.scale (3 * c.args.v + 1)) c.args.oy c.in-At-coordinate_of.y =
-    got (scaled c.args.positions.now c.args.scale (3 * c.args.v + 1)) c.args.oy c.ranges.oy c.coordinate_of-2.result c.coordinate_of-2.ensures c.in-At-coordinate_of.y c.in-At-coordinate_of.is in the_second) (let the_third : Got (scaled c.args.positions.now c.args.scale (3 * c.args.v + 2)) c.args.oz c.in-At-coordinate_of-2.z =
-    got (scaled c.args.positions.now c.args.scale (3 * c.args.v + 2)) c.args.oz c.ranges.oz c.coordinate_of-3.result c.coordinate_of-3.ensures c.in-At-coordinate_of-2.z c.in-At-coordinate_of-2.is in the_third)
+returns c =
+    corner_in _ _ _ _ (got _ _ (record { sfits = omega arith }) _ c.in_ok-x.ensures) (got _ _ (record { sfits = omega arith }) _ c.in_ok-y.ensures)
+    (got _ _ (record { sfits = omega arith }) _ c.in_ok-z.ensures)

@@ -1,35 +1,74 @@
 -- `volume::sum_of` meets its contract. Assumes nothing.
-use mathlib.Core.Bool.{false}
-use mathlib.Core.Path.{◌≡◌, refl}
-use Prim.Native.Nat.{◌+◌, ◌*◌}
-use native.Mathlib.Omega.{arith}
-use lib.IntN.{ℤ}
-use Rattle.laws.proofs.Sizes.{rd}
-use Rattle.laws.proofs.Triangles.{tri_at}
-use Rattle.volume.specs.Volume.{tri_ok}
-use Rattle.volume.specs.Parts.{whole3}
-use Rattle.volume.specs.declared.Term.TheVariants.{Missing, Six}
-use Rattle.volume.proofs.Answers.{Fits, lists-fit}
-use Rattle.volume.proofs.Sums.{origin_is, at_origin, summed-none, Next, named, sum_room, sum-turn, sum_done, sum-stop, term_missing, term_six}
+use Rattle.std.proofs.Common.{◌∙◌, ap, sym, arith, length, length-append, ◌+◌, ◌*◌}
+use Rattle.std.specs.Slice.Iter.{chunks_exact_size, chunks_exact_rest}
+use Rattle.std.proofs.lemmas.Result.{err_from_is_err_and}
+use Rattle.volume.specs.Volume.{told}
+use Rattle.volume.proofs.Answers.{lists-fit}
+use Rattle.volume.proofs.Sums.{summed-none, named, sum_room, sum-turn, sum_done, sum-stop, term_missing, term_six, stopped, chunk_names, chunk-next, chunks-all}
 use Rattle.volume.proofs.sum_of.Goals as goal
 
-pub loop-k-init : goal.loop-k-init
-loop-k-init c = summed-none _ _ _ _ _
+pub loop-t-init : goal.loop-t-init
+loop-t-init c =
+    let e = c.chunks_exact-t-items.ensures in
+    let i = c.into_iter-t-iterator.ensures.into_iter_gives in
+    record {
+      threes = ap chunks_exact_size i ∙ e.size;
+      rest = ap chunks_exact_rest i ∙ e.rest;
+      within = omega arith;
+      sum = summed-none _ _ _ _;
+    }
 
 pub triangle_of-requires : goal.triangle_of-requires
-triangle_of-requires c = let k = c.loop-k.k in let l = c.loop-k-test.true in (named c.args.positions.now c.args.triangles.now (3 * k) _ (let the_fit : Fits c.args.positions.now c.args.triangles.now = lists-fit c.args.positions.now c.args.triangles.now c.requires in the_fit).named (omega arith) c.index-a.ensures, named c.args.positions.now c.args.triangles.now (3 * k + 1) _ (let the_fit : Fits c.args.positions.now c.args.triangles.now = lists-fit c.args.positions.now c.args.triangles.now c.requires in the_fit).named (omega arith) c.index-b.ensures, named c.args.positions.now c.args.triangles.now (3 * k + 2) _ (let the_fit : Fits c.args.positions.now c.args.triangles.now = lists-fit c.args.positions.now c.args.triangles.now c.requires in the_fit).named (omega arith) c.index-c.ensures)
+triangle_of-requires c =
+    let s = c.in-Some.ensures.steps in
+    let k = length c.loop-t.yielded in
+    let w = chunk_names c.args.triangles.now k _ _ _ c.loop-t.invariant.rest s.1.0 (s.1.1 ∙ c.loop-t.invariant.threes) c.index-a.ensures c.index-b.ensures c.index-c.ensures in
+    let fit = (lists-fit c.args.positions.now c.args.triangles.now c.requires).named in
+    let n = named c.args.positions.now c.args.triangles.now in
+    (n (3 * k) _ fit (omega (arith, w.inside)) w.is_a, n (3 * k + 1) _ fit (omega (arith, w.inside)) w.is_b, n (3 * k + 2) _ fit (omega (arith, w.inside)) w.is_c)
 
-pub returns-in_default : goal.returns-in_default
-returns-in_default c = at_origin c.args.positions.now c.args.triangles.now c.args.scale _ (origin_is c.ranges.ox c.ranges.oy c.ranges.oz) (sum-stop c.args.positions.now c.args.scale (whole3 (rd c.args.ox) (rd c.args.oy) (rd c.args.oz)) c.args.triangles.now _ c.loop-k.k _ refl c.loop-k-test.true ((let the_missing : c.triangle_of.result ≡ Missing → tri_ok c.args.positions.now c.args.scale (whole3 (rd c.args.ox) (rd c.args.oy) (rd c.args.oz)) (tri_at c.args.triangles.now c.loop-k.k) ≡ false = λ e. term_missing c.args.positions.now c.args.scale (whole3 (rd c.args.ox) (rd c.args.oy) (rd c.args.oz)) c.args.triangles.now c.loop-k.k _ _ _ c.index-a.ensures c.index-b.ensures c.index-c.ensures c.triangle_of.result c.triangle_of.ensures e in the_missing) c.in_default.is) c.refusal.ensures)
+pub returns-in_err-six : goal.returns-in_err-six
+returns-in_err-six c =
+    let s = c.in-Some.ensures.steps in
+    let k = length c.loop-t.yielded in
+    let w = chunk_names c.args.triangles.now k _ _ _ c.loop-t.invariant.rest s.1.0 (s.1.1 ∙ c.loop-t.invariant.threes) c.index-a.ensures c.index-b.ensures c.index-c.ensures in
+    let p = err_from_is_err_and c.from_residual.result c.from_residual.ensures.1 in
+    let e = c.in_err-six.ensures in
+    let no =
+    term_missing c.args.positions.now c.args.scale c.args.origin c.args.triangles.now k _ _ _ w.is_a w.is_b w.is_c
+    (sym e.ok_part ∙ c.triangle_of.ensures) in
+    ap told (stopped _ _ _ _ p.1 p.2 e.value e.ok_part) ∙ sum-stop _ _ _ _ k w.inside no
 
 pub overflow_add-six : goal.overflow_add-six
-overflow_add-six c = sum_room c.args.positions.now c.args.scale (whole3 (rd c.args.ox) (rd c.args.oy) (rd c.args.oz)) c.args.triangles.now _ c.loop-k.k _ _ (let the_fit : Fits c.args.positions.now c.args.triangles.now = lists-fit c.args.positions.now c.args.triangles.now c.requires in the_fit).few c.loop-k-test.true c.loop-k.invariant ((let the_next : (d : ℤ) → c.triangle_of.result ≡ Six d → Next c.args.positions.now c.args.scale (whole3 (rd c.args.ox) (rd c.args.oy) (rd c.args.oz)) c.args.triangles.now c.loop-k.k d = λ d e. term_six c.args.positions.now c.args.scale (whole3 (rd c.args.ox) (rd c.args.oy) (rd c.args.oz)) c.args.triangles.now c.loop-k.k _ _ _ c.index-a.ensures c.index-b.ensures c.index-c.ensures c.triangle_of.result c.triangle_of.ensures d e in the_next) _ c.in-Six.is)
+overflow_add-six c =
+    let s = c.in-Some.ensures.steps in
+    let k = length c.loop-t.yielded in
+    let w = chunk_names c.args.triangles.now k _ _ _ c.loop-t.invariant.rest s.1.0 (s.1.1 ∙ c.loop-t.invariant.threes) c.index-a.ensures c.index-b.ensures c.index-c.ensures in
+    let fit = lists-fit c.args.positions.now c.args.triangles.now c.requires in
+    let x =
+    term_six c.args.positions.now c.args.scale c.args.origin c.args.triangles.now k _ _ _ w.is_a w.is_b w.is_c _
+    (sym c.in_ok-six.ensures.ok_part ∙ c.triangle_of.ensures) in
+    sum_room c.args.positions.now c.args.scale c.args.origin c.args.triangles.now _ k _ _ fit.few w.inside c.loop-t.invariant.sum x
 
-pub loop-k-smaller : goal.loop-k-smaller
-loop-k-smaller c = omega arith
-
-pub loop-k-preserved : goal.loop-k-preserved
-loop-k-preserved c = sum-turn c.args.positions.now c.args.scale (whole3 (rd c.args.ox) (rd c.args.oy) (rd c.args.oz)) c.args.triangles.now _ c.loop-k.k _ _ (let the_fit : Fits c.args.positions.now c.args.triangles.now = lists-fit c.args.positions.now c.args.triangles.now c.requires in the_fit).few c.loop-k-test.true c.loop-k.invariant ((let the_next : (d : ℤ) → c.triangle_of.result ≡ Six d → Next c.args.positions.now c.args.scale (whole3 (rd c.args.ox) (rd c.args.oy) (rd c.args.oz)) c.args.triangles.now c.loop-k.k d = λ d e. term_six c.args.positions.now c.args.scale (whole3 (rd c.args.ox) (rd c.args.oy) (rd c.args.oz)) c.args.triangles.now c.loop-k.k _ _ _ c.index-a.ensures c.index-b.ensures c.index-c.ensures c.triangle_of.result c.triangle_of.ensures d e in the_next) _ c.in-Six.is)
+pub loop-t-preserved : goal.loop-t-preserved
+loop-t-preserved c =
+    let s = c.in-Some.ensures.steps in
+    let k = length c.loop-t.yielded in
+    let w = chunk_names c.args.triangles.now k _ _ _ c.loop-t.invariant.rest s.1.0 (s.1.1 ∙ c.loop-t.invariant.threes) c.index-a.ensures c.index-b.ensures c.index-c.ensures in
+    let fit = lists-fit c.args.positions.now c.args.triangles.now c.requires in
+    let x =
+    term_six c.args.positions.now c.args.scale c.args.origin c.args.triangles.now k _ _ _ w.is_a w.is_b w.is_c _
+    (sym c.in_ok-six.ensures.ok_part ∙ c.triangle_of.ensures) in
+    let more = sum-turn c.args.positions.now c.args.scale c.args.origin c.args.triangles.now _ k _ _ fit.few w.inside c.loop-t.invariant.sum x in
+    simp length-append (record {
+      threes = s.0 ∙ c.loop-t.invariant.threes;
+      rest = chunk-next c.args.triangles.now k _ _ _ c.loop-t.invariant.rest s.1.0 (s.1.1 ∙ c.loop-t.invariant.threes);
+      within = omega (arith, w.inside);
+      sum = more;
+    })
 
 pub returns : goal.returns
-returns c = at_origin c.args.positions.now c.args.triangles.now c.args.scale _ (origin_is c.ranges.ox c.ranges.oy c.ranges.oz) (sum_done c.args.positions.now c.args.scale (whole3 (rd c.args.ox) (rd c.args.oy) (rd c.args.oz)) c.args.triangles.now _ _ _ refl (let the_fit : Fits c.args.positions.now c.args.triangles.now = lists-fit c.args.positions.now c.args.triangles.now c.requires in the_fit).few c.loop-k-test.false c.loop-k.invariant)
+returns c =
+    let i = c.loop-t.invariant in
+    let s = c.in-None.ensures.steps in
+    sum_done _ _ _ _ (length c.loop-t.yielded) _ (chunks-all _ _ _ i.rest i.within (omega (arith, s.1.0, i.threes))) i.sum

@@ -1,2 +1,0 @@
--- How long the tables are that are printed.
-pub mod Lines
