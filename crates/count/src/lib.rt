@@ -7,6 +7,7 @@ ghost use Rattle.build.specs.Answer.{counts_of};
 ghost use Rattle.count.specs.Count.{printed, Answered};
 
 use build::Answer;
+use file_build::WorkSpace;
 
 // The room for an answer: none takes more.
 pub const ROOM: usize = 351;
@@ -47,21 +48,8 @@ pub fn print(out: &mut [u8], k: usize, a: Answer) -> usize
 pub fn count_text(input: &[u8], out: &mut [u8; ROOM]) -> usize
     ensures { Answered input.now out.old out.new result }
 {
-    let mut masks = [0u16; count_file::SITES];
-    let mut table = [0u32; 1512];
-    let mut positions = [0.0; 6804];
-    let mut book = [0u32; 9072];
-    let mut triangles = [0u32; 7776];
-    let mut edges = [0u32; 23328];
-    let built = file_build::build_file(
-        input,
-        &mut masks,
-        &mut table,
-        &mut positions,
-        &mut book,
-        &mut triangles,
-        &mut edges,
-    );
+    let mut space = WorkSpace::new();
+    let built = space.build(input);
     let sites = built.file.map_or(0, |file| file.sites);
     print(out, sites, built.answer)
 }

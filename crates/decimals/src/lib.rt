@@ -1,7 +1,7 @@
 // Whole numbers in decimal, read and printed: with a minus where they are below 0, and with digits behind a point.
 #![tactic(auto)]
 
-ghost use Rattle.std.specs.Prelude.{◌≡◌, ◌+◌, ◌-◌, ◌≤◌, length, SomeIff};
+ghost use Rattle.std.specs.Prelude.{◌+◌, ◌-◌, ◌≤◌, length, SomeIff};
 ghost use Rattle.laws.specs.Written.{Written};
 ghost use Rattle.decimals.specs.Decimals.{sign_of, pointed, decimal};
 ghost use Rattle.decimals.specs.Readers.{NaturalOf, SignedOf};

@@ -9,6 +9,7 @@ ghost use Rattle.file_build.specs.Asked.{head_sides};
 
 use build::Answer;
 use count_file::Head;
+use file_build::WorkSpace;
 use lattice::Sides;
 use std::io;
 use topology::TopologyResult;
@@ -286,11 +287,7 @@ fn dump(
     head: Head,
     samples: &[f64],
     a: Answer,
-    masks: &[u16],
-    table: &[u32],
-    positions: &[f64],
-    book: &[u32],
-    tris: &[u32],
+    space: &WorkSpace,
 ) -> io::Result<()>
     requires { Sampled (head_sides head) samples.now × (length samples.now ≤ sites (head_sides head)) }
 {
@@ -301,13 +298,13 @@ fn dump(
         samples,
         inside: file_build::inside_of(head),
         cluster: sizes[3] == 1,
-        masks: front(masks, samples.len()),
+        masks: front(&space.masks, samples.len()),
     };
     let lists = Lists {
-        table: front(table, tables::OWNED_EDGES * k),
-        positions: front(positions.as_chunks().0, a.vertices),
-        book: front(book.as_chunks().0, a.vertices),
-        triangles: front(tris.as_chunks().0, a.triangles),
+        table: front(&space.table, tables::OWNED_EDGES * k),
+        positions: front(space.positions.as_chunks().0, a.vertices),
+        book: front(space.book.as_chunks().0, a.vertices),
+        triangles: front(space.triangles.as_chunks().0, a.triangles),
     };
     show_sites(rt, &field)?;
     show_splits(rt, &field, &lists, a.split)?;
@@ -316,21 +313,8 @@ fn dump(
 }
 
 fn show_file(rt: &impl Print, input: &[u8]) -> io::Result<()> {
-    let mut masks = [0u16; count_file::SITES];
-    let mut table = [0u32; 1512];
-    let mut positions = [0.0; 6804];
-    let mut book = [0u32; 9072];
-    let mut tris = [0u32; 7776];
-    let mut edges = [0u32; 23328];
-    let built = file_build::build_file(
-        input,
-        &mut masks,
-        &mut table,
-        &mut positions,
-        &mut book,
-        &mut tris,
-        &mut edges,
-    );
+    let mut space = WorkSpace::new();
+    let built = space.build(input);
     let sites = built.file.map_or(0, |file| file.sites);
     let answer = built.answer;
     let mut out = [0u8; count::ROOM];
@@ -339,17 +323,7 @@ fn show_file(rt: &impl Print, input: &[u8]) -> io::Result<()> {
     if let Some(file) = built.file {
         if answer.status == 0 {
             let samples = file_build::floats_of(file.samples);
-            dump(
-                rt,
-                file.head,
-                &samples[..file.sites],
-                answer,
-                &masks,
-                &table,
-                &positions,
-                &book,
-                &tris,
-            )?;
+            dump(rt, file.head, &samples[..file.sites], answer, &space)?;
         }
     }
     Ok(())

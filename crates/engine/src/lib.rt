@@ -33,7 +33,7 @@ pub struct Drawn {
     pub cases: [usize; 6],
 }
 
-// What every stage reads. The four lists that it fills stay parameters: where a field behind a `&mut` is lent as a `&`, no fact says what it holds afterwards.
+// What every stage reads. The lists that it fills, and the room, stay parameters: where a field behind a `&mut` is lent as a `&`, no fact says what it holds afterwards.
 #[derive(Clone, Copy)]
 struct Source<'a> {
     job: Job,

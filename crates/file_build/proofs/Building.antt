@@ -20,11 +20,12 @@ use Rattle.count_file.proofs.Files.{file_unique, accepted-samples}
 use Rattle.build.specs.declared.Answer.{Answer}
 use Rattle.build.specs.Answer.{Order, order, answer_of, refused_answer, Lists, lengths_of, lists_after, BuildOf, BuildIn}
 use Rattle.file_build.specs.declared.Built.{Built}
-use Rattle.file_build.specs.Asked.{head_sides, head_frame, head_inside, floats_of, file_order, BuiltOf, built, unbuilt}
+use Rattle.file_build.specs.declared.WorkSpace.{WorkSpace}
+use Rattle.file_build.specs.Asked.{head_sides, head_frame, head_inside, floats_of, file_order, work_space, space_lists, blank, BuiltOf, built, unbuilt}
 
 -- ---- the build of a header
 
-pub head_built : (hd : Head) {S : List Float} {n : Sides} {t : Float} {f : Frame} {l l' : Lists} {a : Answer} → n ≡ head_sides hd → t ≡ head_inside hd → f ≡ head_frame hd
+head_built : (hd : Head) {S : List Float} {n : Sides} {t : Float} {f : Frame} {l l' : Lists} {a : Answer} → n ≡ head_sides hd → t ≡ head_inside hd → f ≡ head_frame hd
     → BuildIn n (get_or hd.sizes 3 0) (get_or hd.sizes 4 0) t f S l l' a → BuildOf (file_order hd S (lengths_of l)) l l' a
 head_built hd {S} {l = l} {l'} {a} hn ht hf h =
     subst (λ (o : Order). BuildOf o l l' a) (λ i. order (hn i) (get_or hd.sizes 3 0) (get_or hd.sizes 4 0) (ht i) (hf i) S (lengths_of l)) h
@@ -53,10 +54,14 @@ read-room s p a =
     omega (arith, length-map p.samples (of_bits binary64))
 
 module _ (s : List ℕ) (l l' : Lists) (b : Answer) where
-  pub read-built : (p : Parsed) → Accepted s p → BuildOf (file_order p.head (take p.sites (floats_of p.samples)) (lengths_of l)) l l' b → BuiltOf s l l' (record { file = Some p; answer = b })
+  read-built : (p : Parsed) → Accepted s p → BuildOf (file_order p.head (take p.sites (floats_of p.samples)) (lengths_of l)) l l' b → BuiltOf s l l' (record { file = Some p; answer = b })
   read-built p a d =
       let q : take p.sites (floats_of p.samples) ≡ floats_of a.samples = take_floats p.sites p.samples ∙ ap floats_of (accepted-samples s p a) in
       built p.head a.samples a.file (ap Some a.is) (subst (λ (S : List Float). BuildOf (file_order p.head S (lengths_of l)) l l' b) q d)
+
+  pub head-read : (p : Parsed) {S : List Float} {n : Sides} {t : Float} {f : Frame} → Accepted s p → S ≡ floats_of p.samples → n ≡ head_sides p.head → t ≡ head_inside p.head → f ≡ head_frame p.head
+      → BuildIn n (get_or p.head.sizes 3 0) (get_or p.head.sizes 4 0) t f (take p.sites S) l l' b → BuiltOf s l l' (record { file = Some p; answer = b })
+  head-read p a e hn ht hf h = read-built p a (head_built p.head hn ht hf (rw e at h))
 
   pub unread-built : Refused s → b ≡ refused_answer 8 → l' ≡ l → BuiltOf s l l' (record { file = None; answer = b })
   unread-built p d k = unbuilt p.none refl d k
@@ -108,3 +113,9 @@ module _ {s : List ℕ} {l l' : Lists} {r : Built} where
         let q : floats_of ss ≡ take p.sites (floats_of p.samples) = ap floats_of (u ∙ sym (accepted-samples s p a)) ∙ sym (take_floats p.sites p.samples) in
         subst (λ (o : Order). BuildOf o l l' r.answer) (ap₂ (λ (v : Head) (S : List Float). file_order v S (lengths_of l)) h q) b
     built-read (unbuilt n d a k) = absurd (some_none (sym is ∙ d))
+
+-- ---- the work space is enough for every file
+
+pub blank-lengths : {w : WorkSpace} → w ≡ blank → lengths_of (space_lists w) ≡ work_space
+unfolding blank
+blank-lengths e = ap (λ (w : WorkSpace). lengths_of (space_lists w)) e

@@ -1,17 +1,18 @@
 -- What a count file asks for, and what is built of it (docs/SCOPE.md, S10). Assumes nothing.
-use Rattle.std.specs.Prelude.{◌≡◌, Some, None, List, map, ℕ, get_or, Float}
-use Rattle.std.specs.Float.{binary64}
+use Rattle.std.specs.Prelude.{◌≡◌, false, Some, None, List, map, ℕ, get_or, replicate, pos, Float}
+use Rattle.std.specs.Float.{binary64, fin}
 use Rattle.std.specs.Float.Ieee.{of_bits}
 use Rattle.lattice.specs.declared.Sides.{Sides}
 use Rattle.points.specs.declared.Point.{Point}
 use Rattle.points.specs.declared.Frame.{Frame}
 use Rattle.points.specs.Positions.{frame_of}
 use Rattle.refusals.specs.declared.Lengths.{Lengths}
-use Rattle.build.specs.Answer.{Order, order, refused_answer, Lists, lengths_of, BuildOf}
+use Rattle.build.specs.Answer.{Order, order, refused_answer, Lists, lists, lengths_of, BuildOf}
 use Rattle.count_file.specs.declared.Head.{Head}
 use Rattle.count_file.specs.CountFile.{CountFile}
 use Rattle.count_file.specs.Parsed.{accepted}
 use Rattle.file_build.specs.declared.Built.{Built}
+use Rattle.file_build.specs.declared.WorkSpace.{WorkSpace}
 
 -- ---- what the values of a file ask for; the sizes of a header are nu, nv, nw, method and rounds
 
@@ -38,6 +39,20 @@ file_order h S L = order (head_sides h) (get_or h.sizes 3 0) (get_or h.sizes 4 0
 -- lists for 216 sites: a mask and seven owned edges each, three vertices for two of these edges, a cell each
 abbrev pub work_space : Lengths
 work_space = record { masks = 216; table = 1512; vertices = 6804; book = 9072; triangles = 7776; edges = 23328 }
+
+-- such lists, and all zeros in them
+abbrev pub space_lists : WorkSpace → Lists
+space_lists w = lists w.masks w.table w.positions w.book w.triangles w.edges
+
+unfoldable pub blank : WorkSpace
+blank = record {
+  masks = replicate 216 0;
+  table = replicate 1512 0;
+  positions = replicate 6804 (fin false 0 (pos 0));
+  book = replicate 9072 0;
+  triangles = replicate 7776 0;
+  edges = replicate 23328 0;
+}
 
 abbrev pub work_order : Head → List Float → Order
 work_order h S = file_order h S work_space

@@ -2,8 +2,8 @@
 #![tactic(auto)]
 
 ghost use Rattle.std.specs.Prelude.{◌≡◌};
-ghost use Rattle.build.specs.Answer.{lists, lengths_of, BuildOf};
-ghost use Rattle.file_build.specs.Asked.{head_sides, point_of, head_frame, head_inside, floats_of, file_order, BuiltOf};
+ghost use Rattle.build.specs.Answer.{lists, lengths_of};
+ghost use Rattle.file_build.specs.Asked.{head_sides, point_of, head_frame, head_inside, floats_of, space_lists, blank, BuiltOf};
 
 use build::Answer;
 use count_file::{Head, Parsed};
@@ -56,31 +56,6 @@ pub fn floats_of(bits: [u64; count_file::SITES]) -> [f64; count_file::SITES]
     bits.map(points::float_of_bits)
 }
 
-// The build that a header and its samples ask for.
-fn build_head(
-    head: Head,
-    samples: &[f64],
-    masks: &mut [u16],
-    table: &mut [u32],
-    positions: &mut [f64],
-    book: &mut [u32],
-    triangles: &mut [u32],
-    edges: &mut [u32],
-) -> Answer
-    ensures { BuildOf (file_order head samples.now (lengths_of (lists masks.old table.old positions.old book.old triangles.old edges.old))) (lists masks.old table.old positions.old book.old triangles.old edges.old) (lists masks.new table.new positions.new book.new triangles.new edges.new) result }
-{
-    let frame = head_frame(head);
-    let n = sides_of(head);
-    let threshold = inside_of(head);
-    let sizes = head.sizes;
-    let method = sizes[3] as usize;
-    let rounds = sizes[4] as usize;
-    build::build(
-        n, method, rounds, threshold, frame, samples, masks, table, positions, book, triangles,
-        edges,
-    )
-}
-
 // What was read of an input, and what was built of it: where the input is no count file there is no `file`, and `answer` has status 8 and zeros.
 #[derive(Clone, Copy)]
 pub struct Built {
@@ -100,27 +75,95 @@ pub fn build_file(
 ) -> Built
     ensures { BuiltOf input.now (lists masks.old table.old positions.old book.old triangles.old edges.old) (lists masks.new table.new positions.new book.new triangles.new edges.new) result }
 {
-    match count_file::read_file(input) {
-        Some(file) => {
-            let samples = floats_of(file.samples);
-            let answer = build_head(
-                file.head,
-                &samples[..file.sites],
-                masks,
-                table,
-                positions,
-                book,
-                triangles,
-                edges,
-            );
-            Built {
-                file: Some(file),
-                answer,
-            }
-        }
-        None => Built {
+    let Some(file) = count_file::read_file(input) else {
+        return Built {
             file: None,
             answer: build::refused(8),
-        },
+        };
+    };
+    let head = file.head;
+    let frame = head_frame(head);
+    let n = sides_of(head);
+    let threshold = inside_of(head);
+    let sizes = head.sizes;
+    let method = sizes[3] as usize;
+    let rounds = sizes[4] as usize;
+    let samples = floats_of(file.samples);
+    let answer = build::build(
+        n,
+        method,
+        rounds,
+        threshold,
+        frame,
+        &samples[..file.sites],
+        masks,
+        table,
+        positions,
+        book,
+        triangles,
+        edges,
+    );
+    Built {
+        file: Some(file),
+        answer,
+    }
+}
+
+// ---- the work space
+
+// Seven owned edges a site.
+const TABLE: usize = 7 * count_file::SITES;
+
+// Three vertices for two of these edges: three floats each, and a row of four words in the vertex book.
+const VERTICES: usize = TABLE / 2 * 3;
+
+const POSITIONS: usize = 3 * VERTICES;
+
+const BOOK: usize = 4 * VERTICES;
+
+// The words that a cell takes in the list of triangles, and in that of edges.
+const TRIANGLES: usize = 36 * count_file::SITES;
+
+const EDGES: usize = 108 * count_file::SITES;
+
+// The six lists of a build, long enough for every count file.
+#[derive(Drop)]
+pub struct WorkSpace {
+    pub masks: [u16; count_file::SITES],
+    pub table: [u32; TABLE],
+    pub positions: [f64; POSITIONS],
+    pub book: [u32; BOOK],
+    pub triangles: [u32; TRIANGLES],
+    pub edges: [u32; EDGES],
+}
+
+impl WorkSpace {
+    // Zeros all over.
+    pub fn new() -> WorkSpace
+        ensures { result ≡ blank }
+    {
+        WorkSpace {
+            masks: [0; count_file::SITES],
+            table: [0; TABLE],
+            positions: [0.0; POSITIONS],
+            book: [0; BOOK],
+            triangles: [0; TRIANGLES],
+            edges: [0; EDGES],
+        }
+    }
+
+    // The count file that is read, built in these lists. Where the input is no count file, or is refused, they stay as they were.
+    pub fn build(&mut self, input: &[u8]) -> Built
+        ensures { BuiltOf input.now (space_lists self.old) (space_lists self.new) result }
+    {
+        build_file(
+            input,
+            &mut self.masks,
+            &mut self.table,
+            &mut self.positions,
+            &mut self.book,
+            &mut self.triangles,
+            &mut self.edges,
+        )
     }
 }

@@ -43,7 +43,7 @@ pub struct EdgeOwner {
 fn side_ok(n: usize) -> bool
     ensures { result ≡ side_ok n }
 {
-    if 0 < n { n <= LARGEST_SIDE } else { false }
+    0 < n && n <= LARGEST_SIDE
 }
 
 // Each side is 1 to 32.
@@ -108,10 +108,7 @@ fn at_end(x: usize, n: usize) -> bool
     requires { 0 < n }
     ensures { result ≡ at_end x n }
 {
-    if x == 0 {
-        return true;
-    }
-    x == n - 1
+    x == 0 || x == n - 1
 }
 
 // a - b, as a signed number.
@@ -141,12 +138,8 @@ fn up(n: Sides, p: Uvw, c: usize) -> Option<usize>
     let u = p.u + c % 2;
     let v = p.v + c / 2 % 2;
     let w = p.w + c / 4 % 2;
-    if u < n.nu {
-        if v < n.nv {
-            if w < n.nw {
-                return Some(site_number(n, Uvw { u, v, w }));
-            }
-        }
+    if u < n.nu && v < n.nv && w < n.nw {
+        return Some(site_number(n, Uvw { u, v, w }));
     }
     None
 }
@@ -168,15 +161,11 @@ fn down(n: Sides, p: Uvw, c: usize) -> Option<usize>
     let du = c % 2;
     let dv = c / 2 % 2;
     let dw = c / 4 % 2;
-    if du <= p.u {
-        if dv <= p.v {
-            if dw <= p.w {
-                let u = p.u - du;
-                let v = p.v - dv;
-                let w = p.w - dw;
-                return Some(site_number(n, Uvw { u, v, w }));
-            }
-        }
+    if du <= p.u && dv <= p.v && dw <= p.w {
+        let u = p.u - du;
+        let v = p.v - dv;
+        let w = p.w - dw;
+        return Some(site_number(n, Uvw { u, v, w }));
     }
     None
 }
@@ -195,7 +184,8 @@ pub fn across(n: Sides, s: usize, label: usize) -> Option<usize>
     down(n, p, c)
 }
 
-// How far b is from a: 0 to 4 for -2 to 2, and 5 for all else. No difference is taken that could overflow.
+// How far b is from a: 0 to 4 for -2 to 2, and 5 for all else: a number and no Option, since it is a row of the table below. No difference is taken that could
+// overflow.
 fn axis_gap(a: i64, b: i64) -> usize
     ensures { result ≡ gap (b -ℤ a) }
 {
@@ -222,7 +212,7 @@ fn axis_gap(a: i64, b: i64) -> usize
     5
 }
 
-// The label of the edge with these gaps on the three axes, x + 6 y + 36 z; 14 for none.
+// The label of the edge with these gaps on the three axes, x + 6 y + 36 z; 14 for none, which is past every label, as the gaps' 5 is past every gap.
 const GAP_LABELS: [usize; 216] = [
     14, 14, 14, 14, 14, 14, 14, 14, 14, 14, 14, 14, 14, 14, 14, 14, 14, 14, 14, 14, 14, 14, 14, 14,
     14, 14, 14, 14, 14, 14, 14, 14, 14, 14, 14, 14, 14, 14, 14, 14, 14, 14, 14, 14, 5, 14, 14, 14,

@@ -39,7 +39,7 @@ pub fn put8(out: &mut [u8], at: usize, w: u64) -> usize
     put::<8>(out, at, w)
 }
 
-// `get4` and `get8` stay two functions: the library reads each type by a method of that type, so one over both would be no shorter.
+// `get4` and `get8` are two functions: the library reads each type by a method of that type, so one over both would be no shorter.
 
 // The number of the four bytes from `at` on.
 pub fn get4(s: &[u8], at: usize) -> u32

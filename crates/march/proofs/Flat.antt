@@ -3,7 +3,7 @@ use mathlib.Core.Path.{◌≡◌, refl, sym, ap, ap₂, ◌∙◌, fun_ext}
 use mathlib.Core.Bool.{Bool, true, false, not, ◌&&◌, ◌||◌, cond, or-true}
 use mathlib.Core.List.{List, [], ◌∷◌, ◌++◌, map, map-map}
 use Prim.Native.Nat.{ℕ, zero, suc, ◌+◌, ◌*◌, ◌/◌, ◌%◌, ◌≤◌, ◌<◌}
-use native.Mathlib.Nat.{not-suc-le-zero, ne_of_lt, mul-le-mul_left, add-zero}
+use native.Mathlib.Nat.{ne_of_lt, mul-le-mul_left, add-zero}
 use native.Mathlib.Omega.{arith}
 use lib.Dec.{eqb, lit<, lit≤}
 use borrow.Author.Tests.{eq-eqb, ne_eqb}
@@ -60,9 +60,6 @@ shown-is a b c = go (eqb a none) (eqb b none) (eqb c none) (eqb a b) (eqb b c) (
 -- v has the first c corners, each of them there
 abbrev pub Has : (ℕ → ℕ) → List ℕ → ℕ → Type 0
 Has g v c = (j : ℕ) → j < c → (get_or v j 0 ≡ g j) × (g j ≡ none → ⊥)
-
-pub has-none : (g : ℕ → ℕ) (v : List ℕ) → Has g v 0
-has-none g v j h = absurd (not-suc-le-zero h)
 
 pub has_more : (g : ℕ → ℕ) (v : List ℕ) (c x : ℕ) → c < length v → Has g v c → x ≡ g c → (x ≡ none → ⊥) → Has g (set v c x) (c + 1)
 has_more g v c x l all e here =
@@ -172,14 +169,3 @@ slot_in {edges} {i} {nu} {nn} x b =
   where
     within : (i nu nn a b c l n : ℕ) → a < 2 → b ≤ nu * 1 → c ≤ nn * 1 → l < 7 → 7 * (i + 1 + nu + nn) + 7 ≤ n → 7 * (i + a + b + c) + l < n
     within i nu nn a b c l n h1 h2 h3 h4 h5 = omega arith
-
--- the offsets from a site to the corners of its cell
-pub record Offsets (nu nn c : ℕ) : Type 0 where
-  pub across : nu * (c / 2 % 2) ≤ nu
-  pub up : nn * (c / 4 % 2) ≤ nn
-
-pub steps_le : (nu nn c : ℕ) → Offsets nu nn c
-steps_le nu nn c =
-    let a : nu * (c / 2 % 2) ≤ nu * 1 = mul-le-mul_left nu (omega arith) in
-    let b : nn * (c / 4 % 2) ≤ nn * 1 = mul-le-mul_left nn (omega arith) in
-    record { across = omega arith; up = omega arith }

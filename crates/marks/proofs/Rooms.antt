@@ -1,5 +1,5 @@
 -- What the loops of the marks need of their lists, and keep. Assumes nothing.
-use Rattle.std.specs.Prelude.{Option, None, Some}
+use Rattle.std.specs.Prelude.{Option, None, Some, IfSome}
 use mathlib.Core.Path.{◌≡◌, refl, sym, ap, ap₂, ◌∙◌}
 use mathlib.Core.Bool.{Bool, true, false, beq, cond}
 use mathlib.Core.List.{List}
@@ -25,42 +25,19 @@ use Rattle.marks.specs.Marks.{sample, crossed_by, is_crossed, crossed_count}
 use Rattle.marks.specs.Inner.Loops.{mark_to, mark_crossing, mark_label, mark_site, mark_sites, mark_row, mark_layer, from_layer, cross_site, cross_sites, cross_row, cross_layer, Room, Sampled}
 use Rattle.marks.proofs.Layers.{below, shifted, across_shift}
 
-pub room_kept : {n : Sides} {S : List Float} {m m' : List ℕ} → Room n S m → length m' ≡ length m → Room n S m'
-room_kept r e = record { fit = r.fit; samples = r.samples; masks = omega (arith, r.masks) }
+-- the site across an owned edge is in the box
+pub end_inside : (n : Sides) (s l : ℕ) (o : Option ℕ) → SidesFit n → s < sites n → o ≡ across_of n s l → IfSome o (λ t. t < sites n)
+end_inside n s l None f h e = tt
+end_inside n s l (Some t) f h e = (across-joined n s l t f h (sym e)).inside
 
-pub room-sampled : {n : Sides} {S : List Float} {m : List ℕ} → Room n S m → Sampled n S
-room-sampled r = record { fit = r.fit; samples = r.samples }
+-- the same for a site that is given with its coordinates
+pub number-lt : (n : Sides) (p : Uvw) (s : ℕ) → InBox n p → s ≡ site_of n p.u p.v p.w → s < sites n
+number-lt n p s b e = rw e (site-lt n p b)
 
--- the two ends of an owned edge have samples
-pub record Ends (n : Sides) (S : List Float) (s l t : ℕ) : Type 0 where
-  pub here : s < sites n
-  pub there : t < sites n
-  pub here_in : s < length S
-  pub there_in : t < length S
-  pub leads : across_of n s l ≡ Some t
+pub other-lt : (n : Sides) (p : Uvw) (s l t : ℕ) → SidesFit n → InBox n p → s ≡ site_of n p.u p.v p.w → across_of n s l ≡ Some t → t < sites n
+other-lt n p s l t f b e a = (across-joined n s l t f (number-lt n p s b e) a).inside
 
-pub ends : (n : Sides) (S : List Float) (p : Uvw) (s l t : ℕ) (o : Option ℕ) → Sampled n S → InBox n p → s ≡ site_of n p.u p.v p.w
-    → o ≡ across_of n (site_of n p.u p.v p.w) l → o ≡ Some t → Ends n S s l t
-ends n S p s l t o r b e a q =
-    let h : s < sites n = omega (arith, e, site-lt n p b) in
-    let x : across_of n s l ≡ Some t = ap (λ (y : ℕ). across_of n y l) e ∙ sym a ∙ q in
-    let k = (across-joined n s l t r.fit h x).inside in
-    record { here = h; there = k; here_in = omega (arith, r.samples); there_in = omega (arith, r.samples); leads = x }
-
--- the two ways out of a label
-pub label_none : (n : Sides) (S : List Float) (h : Float) (s l : ℕ) (m : List ℕ) → across_of n s l ≡ None → m ≡ mark_label n S h s l m
-unfolding mark_label mark_to
-label_none n S h s l m a = sym (ap (λ (o : Option ℕ). mark_to S h s l o m) a)
-
-pub label_some : (n : Sides) (S : List Float) (h : Float) (s l t : ℕ) (m : List ℕ) → across_of n s l ≡ Some t
-    → mark_crossing s t l (crossing (sample S s) (sample S t) h) m ≡ mark_label n S h s l m
-unfolding mark_label mark_to
-label_some n S h s l t m a = sym (ap (λ (o : Option ℕ). mark_to S h s l o m) a)
-
-pub cross_none : (n : Sides) (S : List Float) (h : Float) (s l : ℕ) → across_of n s l ≡ None → 0 ≡ bit (is_crossed n S h s l)
-unfolding is_crossed crossed_by bit
-cross_none n S h s l a = sym (ap (λ (o : Option ℕ). bit (crossed_by S h s o)) a)
-
+-- an edge that leads to a site counts for one where the two are on different sides
 crosses_by : (x y h : Float) (b : Bool) → beq (inside x h) (inside y h) ≡ b → bit (crosses (crossing x y h)) ≡ cond b 0 1
 unfolding crossing bit
 crosses_by x y h true e = rw e
@@ -73,17 +50,16 @@ cross_some n S h s l t b a e = sym (ap (λ (o : Option ℕ). bit (crossed_by S h
 
 -- ---- rows
 
-row-end : (v nv nu : ℕ) → v < nv → v * nu + nu ≤ nv * nu
-row-end v nv nu h = rw suc-mul at (mul-le-mul_right nu h)
-
--- site u of row v of the first layer: its number, which stays small
-pub row-site : (n : Sides) (u v : ℕ) → SidesFit n → u < n.nu → v < n.nv → (v * n.nu + u ≡ site_of n u v 0) × (v * n.nu + u < 1024)
+-- site u of row v of the first layer
+pub row-site : (n : Sides) (u v : ℕ) → v * n.nu + u ≡ site_of n u v 0
 unfolding site_of
-row-site n u v f hu hv =
-    (omega (arith, mul_comm v n.nu), omega (arith, row-end v n.nv n.nu hv, f.u_most, f.v_most, mul-le-mul_right n.nu f.v_most))
+row-site n u v = omega (arith, mul_comm v n.nu)
 
 pub row-box : (n : Sides) (u v : ℕ) → SidesFit n → u < n.nu → v < n.nv → InBox n (record { u = u; v = v; w = 0 })
 row-box n u v f hu hv = record { on_u = hu; on_v = hv; on_w = f.w_some }
+
+pub row-inside : (n : Sides) (u v : ℕ) → SidesFit n → u < n.nu → v < n.nv → v * n.nu + u < sites n
+row-inside n u v f hu hv = rw (row-site n u v) (site-lt n _ (row-box n u v f hu hv))
 
 -- the rows are the layer
 pub rows_are : (n : Sides) (S : List Float) (h : Float) (m : List ℕ) → fold (mark_row n S h) n.nv m ≡ mark_layer n S h m
@@ -120,28 +96,15 @@ layer_split n w h =
     let k : w + (n.nw - w) ≡ n.nw = omega arith in
     omega (arith, mul_comm (n.nu * n.nv) (n.nw - w), mul_comm (n.nu * n.nv) n.nw, ap (λ (x : ℕ). x * (n.nu * n.nv)) k)
 
+pub layer-starts : (n : Sides) (w : ℕ) → w < n.nw → below n w ≤ sites n
+layer-starts n w h = omega (arith, layer_split n w h)
+
+-- what has an entry for each site has, behind those below the layer, one for each site from the layer on
+pub layer_left : {A : Type 0} (n : Sides) (w : ℕ) (l : List A) → sites n ≤ length l → w < n.nw → sites (from_layer n w) ≤ length (drop (below n w) l)
+layer_left n w l k h = rw length-drop (omega (arith, layer_split n w h, k))
+
 pub layer_sampled : (n : Sides) (w : ℕ) (S : List Float) → Sampled n S → w < n.nw → Sampled (from_layer n w) (drop (below n w) S)
-layer_sampled n w S r h = record {
-  fit = layer_fit n w r.fit h;
-  samples = rw length-drop (omega (arith, layer_split n w h, r.samples));
-}
-
-pub layer_room : (n : Sides) (w : ℕ) (S : List Float) (m : List ℕ) → Room n S m → w < n.nw → Room (from_layer n w) (drop (below n w) S) (drop (below n w) m)
-layer_room n w S m r h = record {
-  fit = layer_fit n w r.fit h;
-  samples = rw length-drop (omega (arith, layer_split n w h, r.samples));
-  masks = rw length-drop (omega (arith, layer_split n w h, r.masks));
-}
-
--- where layer w begins
-pub record Begins (n : Sides) (w len : ℕ) : Type 0 where
-  pub starts : below n w ≤ len
-  pub small : below n w ≤ 32768
-
-pub begins : (n : Sides) (w len : ℕ) → SidesFit n → w < n.nw → sites n ≤ len → Begins n w len
-begins n w len f h k =
-    let s = layer_split n w h in
-    record { starts = omega (arith, s); small = omega (arith, s, sites-most n f) }
+layer_sampled n w S r h = record { fit = layer_fit n w r.fit h; samples = layer_left n w S r.samples h }
 
 -- ---- the count by layers
 

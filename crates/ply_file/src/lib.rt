@@ -3,26 +3,15 @@
 
 ghost use Rattle.ply_file.specs.Text.{DrawnAt};
 
+use file_build::WorkSpace;
+
 // The PLY file for `input`, put at the front of `out`, or the line `status=` where the count program would refuse; what is returned is its length.
 // The rest of `out` stays as it was. All vertices ever made are written, retired ones too.
 pub fn ply_text(input: &[u8], out: &mut [u8; 88316]) -> usize
     ensures { DrawnAt input.now out.old out.new result }
 {
-    let mut masks = [0u16; count_file::SITES];
-    let mut table = [0u32; 1512];
-    let mut positions = [0.0; 6804];
-    let mut book = [0u32; 9072];
-    let mut triangles = [0u32; 7776];
-    let mut edges = [0u32; 23328];
-    let built = file_build::build_file(
-        input,
-        &mut masks,
-        &mut table,
-        &mut positions,
-        &mut book,
-        &mut triangles,
-        &mut edges,
-    );
+    let mut space = WorkSpace::new();
+    let built = space.build(input);
     let answer = built.answer;
     let status = answer.status;
     if status != 0 {
@@ -30,5 +19,5 @@ pub fn ply_text(input: &[u8], out: &mut [u8; 88316]) -> usize
     }
     let v = answer.vertices * 3;
     let t = answer.triangles * 3;
-    ply_write::write_mesh(&positions[..v], &triangles[..t], out).unwrap()
+    ply_write::write_mesh(&space.positions[..v], &space.triangles[..t], out).unwrap()
 }

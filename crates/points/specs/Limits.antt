@@ -16,6 +16,12 @@ abbrev pub thousandth : Float
 thousandth = round binary64 false 1 1000
 
 -- a comparison with a NaN is false
+abbrev pub within : Float → Float → Float → Bool
+within least most x = le least x && le x most
+
+abbrev pub all_within : Float → Float → Point → Bool
+all_within least most p = within least most p.x && within least most p.y && within least most p.z
+
 unfoldable pub origin_ok : Float → Bool
 origin_ok x = le (neg billion) x && le x billion
 

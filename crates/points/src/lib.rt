@@ -7,7 +7,7 @@ ghost use Rattle.std.specs.Float.{binary64};
 ghost use Rattle.std.specs.Float.Ieee.{in_float, of_bits, to_bits};
 ghost use Rattle.lattice.specs.Sites.{ijk_of};
 ghost use Rattle.points.specs.Positions.{along, position, frame_of};
-ghost use Rattle.points.specs.Limits.{origin_ok, step_ok, origins_ok, steps_ok, frame_ok};
+ghost use Rattle.points.specs.Limits.{within, all_within, frame_ok};
 ghost use Rattle.points.specs.EdgePoints.{interpolate, edge_point};
 ghost use Rattle.points.specs.Means.{none, more, mean_sum};
 
@@ -24,7 +24,6 @@ pub struct Frame {
     pub step: Point,
 }
 
-// The point on an edge: missing where a sample is not finite.
 // Points taken in one after the other: the last one, their sum from 0.0, how many.
 #[derive(Clone, Copy)]
 pub struct Sum {
@@ -39,48 +38,24 @@ pub fn frame_of(origin: Point, step: Point) -> Frame
     Frame { origin, step }
 }
 
-fn origin_ok(x: f64) -> bool
-    ensures { result ≡ origin_ok x }
+// Whether a number lies between two, ends included. A comparison with a NaN is false.
+fn within(x: f64, least: f64, most: f64) -> bool
+    ensures { result ≡ within least most x }
 {
-    if -1.0e9 <= x { x <= 1.0e9 } else { false }
+    least <= x && x <= most
 }
 
-fn step_ok(x: f64) -> bool
-    ensures { result ≡ step_ok x }
+fn all_within(p: Point, least: f64, most: f64) -> bool
+    ensures { result ≡ all_within least most p }
 {
-    if 0.001 <= x { x <= 1.0e6 } else { false }
-}
-
-fn origins_ok(p: Point) -> bool
-    ensures { result ≡ origins_ok p }
-{
-    if origin_ok(p.x) {
-        if origin_ok(p.y) {
-            return origin_ok(p.z);
-        }
-    }
-    false
-}
-
-fn steps_ok(p: Point) -> bool
-    ensures { result ≡ steps_ok p }
-{
-    if step_ok(p.x) {
-        if step_ok(p.y) {
-            return step_ok(p.z);
-        }
-    }
-    false
+    within(p.x, least, most) && within(p.y, least, most) && within(p.z, least, most)
 }
 
 // The frames that a build takes.
 pub fn frame_ok(frame: Frame) -> bool
     ensures { result ≡ frame_ok frame }
 {
-    if origins_ok(frame.origin) {
-        return steps_ok(frame.step);
-    }
-    false
+    all_within(frame.origin, -1.0e9, 1.0e9) && all_within(frame.step, 0.001, 1.0e6)
 }
 
 // The place on one axis. The cast loses nothing.
@@ -119,15 +94,13 @@ pub fn edge_point(frame: Frame, a: lattice::Uvw, b: lattice::Uvw, p: f64, q: f64
     requires { (a.u < 32) × (a.v < 32) × (a.w < 32) × (b.u < 32) × (b.v < 32) × (b.w < 32) }
     ensures { result ≡ edge_point frame (ijk_of a.u a.v a.w) (ijk_of b.u b.v b.w) p q }
 {
-    if samples::is_finite(p) {
-        if samples::is_finite(q) {
-            let from = position_of(frame, a);
-            let to = position_of(frame, b);
-            let t = samples::point_fraction(p, q);
-            return Some(interpolate_points(from, to, t));
-        }
+    if !(samples::is_finite(p) && samples::is_finite(q)) {
+        return None;
     }
-    None
+    let from = position_of(frame, a);
+    let to = position_of(frame, b);
+    let t = samples::point_fraction(p, q);
+    Some(interpolate_points(from, to, t))
 }
 
 pub fn no_points() -> Sum

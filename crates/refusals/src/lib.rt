@@ -47,6 +47,7 @@ impl Refusal {
     }
 }
 
+// The method and the rounds come as numbers, from C and from files, and every number may come: they are tested here, and are a truth value and a count behind it.
 fn settings_ok(method: usize, rounds: usize) -> bool
     ensures { result ≡ settings_ok method rounds }
 {

@@ -15,7 +15,7 @@ fn answer(rt: &impl Print, input: &[u8]) -> io::Result<()> {
     println!(rt; "end")
 }
 
-// The list is left at the first thing in it that is no file.
+// The list is left at the first thing in it that is no file. The loop goes on by a file, as long as its line says, and counts nothing.
 fn replay(rt: &impl Print, list: &[u8]) -> io::Result<()> {
     let mut at = 0;
     while at < list.len() {

@@ -180,14 +180,11 @@ module _ {f : Frame} {n : Sides} {S : List Float} {h : Float} {cluster : Bool} {
         let lk : length k ≡ length k₀ = ap length o.book ∙ simp length-sets in
         record {
           placed = record {
-            sampled = R.sampled;
-            masks = R.masks;
             table = omega (arith, ap length o.table, table-length box now);
             row = omega (arith, book_room, book_length now, in_now);
             site = rw site-is site-low;
             few = omega (arith, in_now, now-within, R.space.few);
           };
-          flagged = R.flagged;
           room = λ d. let e = turn-length (sym due-is ∙ d) in
               record {
                 positions = omega (arith, turn-within, R.space.positions);

@@ -3,7 +3,7 @@ use Rattle.std.specs.Prelude.{Option, None, Some}
 use mathlib.Core.Path.{◌≡◌, refl, sym, ap, ◌∙◌}
 use mathlib.Core.Logic.{⊎_elim}
 use mathlib.Core.List.{List, [], ◌∷◌, ◌++◌, map, append_assoc}
-use Prim.Native.Nat.{ℕ, suc, ◌+◌, ◌*◌, ◌^◌, ◌≤◌, ◌<◌}
+use Prim.Native.Nat.{ℕ, suc, ◌+◌, ◌*◌, ◌^◌, ◌%◌, ◌≤◌, ◌<◌}
 use native.Mathlib.Omega.{arith}
 use lib.Bits.{bit_and, bit_xor}
 use lib.Count.{count_trailing_zeros, ones_in}
@@ -14,7 +14,7 @@ use Rattle.laws.specs.Lists.{keep}
 use Rattle.laws.proofs.Ranges.{lt-or}
 use Rattle.laws.proofs.Lists.{keep_append, map-append}
 use Rattle.laws.proofs.Digits.{ones_le}
-use Rattle.laws.proofs.Visits.{visit_start, visit_turn, visit_end, off_less}
+use Rattle.laws.proofs.Visits.{visit_start, visit_turn, visit_end, low-here, low_bit_lem, off_less}
 use Rattle.lattice.specs.declared.Sides.{Sides}
 use Rattle.lattice.specs.Sites.{sites}
 use Rattle.lattice.specs.Across.{across_of}
@@ -94,6 +94,16 @@ module _ (f : Frame) (n : Sides) (S : List Float) (s : ℕ) where
         ∙ sym (paint-append i (map (owned n s) (pointed_of n S s xs)) (map (owned n s) (pointed_of n S s ys)) t)
         ∙ ap (λ (l : List ℕ). paint i l t) (sym (ap (map (owned n s)) (pointed-append n S s xs ys) ∙ map-append (owned n s) (pointed_of n S s xs) (pointed_of n S s ys)));
   }
+
+-- ---- the lowest edge of the mask rest, where an edge is left
+
+pub record Lowest (rest : ℕ) : Type 0 where
+  pub edge : count_trailing_zeros 16 rest < 14
+  pub bit : 1 * 2 ^ count_trailing_zeros 16 rest % 65536 ≡ 2 ^ count_trailing_zeros 16 rest
+  pub less : ones_in 14 (bit_xor rest (2 ^ count_trailing_zeros 16 rest)) < ones_in 14 rest
+
+pub lowest : (rest : ℕ) → 0 < rest → rest < 2 ^ 14 → Lowest rest
+lowest rest p h = record { edge = low-here 16 14 rest (omega arith) p h; bit = low_bit_lem 16 14 rest (omega arith) p h; less = off_less 16 14 rest (omega arith) p h }
 
 -- ---- the loop over the edges of the mask m: from the table t₀ to t the sum is q, and the edges of rest are left
 

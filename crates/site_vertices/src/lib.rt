@@ -8,11 +8,20 @@ ghost use Rattle.lattice.specs.Across.{across_of};
 ghost use Rattle.marks.specs.Inner.Loops.{Sampled};
 ghost use Rattle.stages.specs.Boxes.{reach, owned};
 ghost use Rattle.stages.specs.Samples.{end_by, ends_of, place_of};
-ghost use Rattle.site_vertices.specs.Inner.Drawing.{Drawable, EdgesDrawn, ClusterDrawn, VertexPut};
+ghost use Rattle.site_vertices.specs.Inner.Drawing.{Tabled, EdgesDrawn, ClusterDrawn, VertexPut};
 ghost use Rattle.site_vertices.specs.Inner.Appending.{Appended, Space, singles_in, singles_of};
 
 use lattice::Sides;
 use points::{Frame, Point, Sum};
+
+// A box with its samples, and where its points lie. The lists that its methods fill stay parameters: where a field behind a `&mut` is lent, no fact says what it holds afterwards.
+#[derive(Clone, Copy)]
+pub struct Source<'a> {
+    pub frame: Frame,
+    pub sides: Sides,
+    pub samples: &'a [f64],
+    pub ghost sampled: { Sampled sides samples.now },
+}
 
 // The sample at the other end of an edge, if that is in the box.
 fn end_at(n: Sides, samples: &[f64], s: usize, e: usize) -> Option<f64>
@@ -70,65 +79,6 @@ pub fn edge_place(n: Sides, s: usize, e: usize) -> usize
     label
 }
 
-// The point on an edge of a site, where both ends are in the box and finite.
-fn place_of(frame: Frame, n: Sides, samples: &[f64], s: usize, e: usize) -> Option<Point>
-    requires { Sampled n samples.now × (s < sites n) × (e < 14) }
-    ensures { result ≡ place_of frame n samples.now s (across_of n s e) }
-{
-    let t = lattice::across(n, s, e)?;
-    let a = lattice::coordinates(n, s);
-    let b = lattice::coordinates(n, t);
-    points::edge_point(frame, a, b, samples[s], samples[t])
-}
-
-// One edge of a vertex: where it has a point, the point joins the sum, and the edge's place takes the vertex's number.
-fn draw_edge(
-    frame: Frame,
-    n: Sides,
-    samples: &[f64],
-    table: &mut [u32],
-    s: usize,
-    e: usize,
-    id: u32,
-    sum: Sum,
-) -> Sum
-    requires { Drawable n samples.now table.old s × (e < 14) × (sum.count < 14) }
-    ensures { EdgesDrawn frame n samples.now s (e ∷ []) id table.old table.new sum result }
-{
-    let place = place_of(frame, n, samples, s, e);
-    match place {
-        None => sum,
-        Some(p) => {
-            let k = edge_place(n, s, e);
-            table[k] = id;
-            points::with_point(sum, p)
-        }
-    }
-}
-
-// The vertex of a cluster: the sum of the points on its edges, whose places in the edge table take its number.
-pub fn draw_cluster(
-    frame: Frame,
-    n: Sides,
-    samples: &[f64],
-    table: &mut [u32],
-    s: usize,
-    mask: u16,
-    id: u32,
-) -> Sum
-    requires { Drawable n samples.now table.old s }
-    ensures { ClusterDrawn frame n samples.now s mask id table.old table.new result }
-{
-    let mut sum = points::no_points();
-    let mut rest = mask & tables::ALL14_MASK;
-    while rest != 0 {
-        let e = u16::trailing_zeros(rest) as usize;
-        rest ^= 1u16 << e;
-        sum = draw_edge(frame, n, samples, table, s, e, id, sum);
-    }
-    sum
-}
-
 fn put_point(positions: &mut [f64], at: usize, p: Point)
     requires { (at + 3 ≤ length positions.old) × (at ≤ 3145728) }
     ensures { positions.new ≡ sets positions.old at (p.x ∷ p.y ∷ p.z ∷ []) }
@@ -165,55 +115,94 @@ pub fn put_vertex(
     put_row(book, 4 * i, s as u32, held, round);
 }
 
-// One edge as a vertex of its own, where it has a point: the next number.
-fn draw_single(
-    frame: Frame,
-    n: Sides,
-    samples: &[f64],
-    table: &mut [u32],
-    positions: &mut [f64],
-    book: &mut [u32],
-    s: usize,
-    e: usize,
-    next: usize,
-    round: u32,
-) -> usize
-    requires drawable { Drawable n samples.now table.old s × (e < 14) }
-    requires space { Space positions.old book.old (next + length (singles_in n samples.now round s (e ∷ []))) }
-    ensures { Appended frame n samples.now (singles_in n samples.now round s (e ∷ [])) next table.old positions.old book.old result table.new positions.new book.new }
-{
-    let sum = draw_cluster(frame, n, samples, table, s, 1u16 << e, next as u32);
-    if sum.count == 0 {
-        return next;
+impl Source<'_> {
+    // The point on an edge of a site, where both ends are in the box and finite.
+    fn place_of(&self, s: usize, e: usize) -> Option<Point>
+        requires { (s < sites self.now.sides) × (e < 14) }
+        ensures { result ≡ place_of self.now.frame self.now.sides self.now.samples.now s (across_of self.now.sides s e) }
+    {
+        let t = lattice::across(self.sides, s, e)?;
+        let a = lattice::coordinates(self.sides, s);
+        let b = lattice::coordinates(self.sides, t);
+        points::edge_point(self.frame, a, b, self.samples[s], self.samples[t])
     }
-    let p = points::mean(sum);
-    put_vertex(positions, book, next, p, s, 1, round);
-    next + 1
-}
 
-// Each edge of the mask that has a point as a vertex of its own, ascending: the next number.
-pub fn draw_singles(
-    frame: Frame,
-    n: Sides,
-    samples: &[f64],
-    table: &mut [u32],
-    positions: &mut [f64],
-    book: &mut [u32],
-    s: usize,
-    mask: u16,
-    next: usize,
-    round: u32,
-) -> usize
-    requires drawable { Drawable n samples.now table.old s }
-    requires space { Space positions.old book.old (next + length (singles_of n samples.now round s mask)) }
-    ensures { Appended frame n samples.now (singles_of n samples.now round s mask) next table.old positions.old book.old result table.new positions.new book.new }
-{
-    let mut at = next;
-    let mut left = mask & tables::ALL14_MASK;
-    while left != 0 {
-        let e = u16::trailing_zeros(left) as usize;
-        left ^= 1u16 << e;
-        at = draw_single(frame, n, samples, table, positions, book, s, e, at, round);
+    // One edge of a vertex: where it has a point, the point joins the sum, and the edge's place takes the vertex's number.
+    fn draw_edge(&self, table: &mut [u32], s: usize, e: usize, id: u32, sum: Sum) -> Sum
+        requires { Tabled self.now.sides table.old s × (e < 14) × (sum.count < 14) }
+        ensures { EdgesDrawn self.now.frame self.now.sides self.now.samples.now s (e ∷ []) id table.old table.new sum result }
+    {
+        match self.place_of(s, e) {
+            None => sum,
+            Some(p) => {
+                let k = edge_place(self.sides, s, e);
+                table[k] = id;
+                points::with_point(sum, p)
+            }
+        }
     }
-    at
+
+    // The vertex of a cluster: the sum of the points on its edges, whose places in the edge table take its number.
+    pub fn draw_cluster(&self, table: &mut [u32], s: usize, mask: u16, id: u32) -> Sum
+        requires { Tabled self.now.sides table.old s }
+        ensures { ClusterDrawn self.now.frame self.now.sides self.now.samples.now s mask id table.old table.new result }
+    {
+        let mut sum = points::no_points();
+        let mut rest = mask & tables::ALL14_MASK;
+        while rest != 0 {
+            let e = u16::trailing_zeros(rest) as usize;
+            rest ^= 1u16 << e;
+            sum = self.draw_edge(table, s, e, id, sum);
+        }
+        sum
+    }
+
+    // One edge as a vertex of its own, where it has a point: the next number.
+    fn draw_single(
+        &self,
+        table: &mut [u32],
+        positions: &mut [f64],
+        book: &mut [u32],
+        s: usize,
+        e: usize,
+        next: usize,
+        round: u32,
+    ) -> usize
+        requires drawable { Tabled self.now.sides table.old s × (e < 14) }
+        requires space { Space positions.old book.old (next + length (singles_in self.now.sides self.now.samples.now round s (e ∷ []))) }
+        ensures { Appended self.now.frame self.now.sides self.now.samples.now (singles_in self.now.sides self.now.samples.now round s (e ∷ [])) next table.old positions.old book.old result table.new positions.new book.new }
+    {
+        let sum = self.draw_cluster(table, s, 1u16 << e, next as u32);
+        if sum.count == 0 {
+            return next;
+        }
+        let p = points::mean(sum);
+        put_vertex(positions, book, next, p, s, 1, round);
+        next + 1
+    }
+
+    // Each edge of the mask that has a point as a vertex of its own, ascending: the next number.
+    pub fn draw_singles(
+        &self,
+        table: &mut [u32],
+        positions: &mut [f64],
+        book: &mut [u32],
+        s: usize,
+        mask: u16,
+        next: usize,
+        round: u32,
+    ) -> usize
+        requires drawable { Tabled self.now.sides table.old s }
+        requires space { Space positions.old book.old (next + length (singles_of self.now.sides self.now.samples.now round s mask)) }
+        ensures { Appended self.now.frame self.now.sides self.now.samples.now (singles_of self.now.sides self.now.samples.now round s mask) next table.old positions.old book.old result table.new positions.new book.new }
+    {
+        let mut at = next;
+        let mut left = mask & tables::ALL14_MASK;
+        while left != 0 {
+            let e = u16::trailing_zeros(left) as usize;
+            left ^= 1u16 << e;
+            at = self.draw_single(table, positions, book, s, e, at, round);
+        }
+        at
+    }
 }

@@ -1,9 +1,9 @@
 -- Neighbours worked out: a delta by the sizes of its axes, the difference of two, and the loop over the edges of a mask. Assumes nothing.
 use mathlib.Core.Path.{◌≡◌, refl, sym, ap, ◌∙◌, subst}
 use mathlib.Core.Bool.{Bool, true, false, ◌&&◌, beq}
-use mathlib.Core.Logic.{⊎_elim}
+use mathlib.Core.Logic.{◌⊎◌, ⊎_elim}
 use mathlib.Core.List.{List, [], ◌∷◌}
-use Prim.Native.Nat.{ℕ, zero, suc, ◌+◌, ◌*◌, ◌%◌, ◌^◌, ◌≤◌, ◌<◌, min, max}
+use Prim.Native.Nat.{ℕ, zero, suc, ◌+◌, ◌-◌, ◌*◌, ◌%◌, ◌^◌, ◌≤◌, ◌<◌, min, max}
 use native.Mathlib.Nat.{zero-mul}
 use native.Mathlib.Omega.{arith}
 use lib.Dec.{T, eqb, ltb, leb, leb→le}
@@ -11,7 +11,7 @@ use lib.IntN.{ℤ, pos, negsuc, ◌-ℤ◌}
 use lib.Signed.{mag}
 use lib.ListN.{length, get_or}
 use lib.Bits.{bit_and, bit_or, bit_xor, and_le_l, or_zero_r, or_lt, mask_lt}
-use lib.Count.{count_trailing_zeros}
+use lib.Count.{count_trailing_zeros, ones_in}
 use lib.Pow.{pow-lt}
 use borrow.Author.Tests.{eqb-true, eq-eqb, ne_eqb, lt-ltb, le-ltb}
 use mir.Syntax.{w8}
@@ -25,7 +25,7 @@ use Rattle.laws.proofs.Bools.{and_left, and_right, and-apart, or_apart, bool_ext
 use Rattle.laws.proofs.Ranges.{all-at, all_at2, beq_at2, eq-or}
 use Rattle.laws.proofs.Digits.{digit_lt, digit-zero, digit_and, digit_or, digit_ext, digit-all, digit-pow-same, digit-pow_other, low-set}
 use Rattle.laws.proofs.Sizes.{read, minus-read}
-use Rattle.laws.proofs.Visits.{low-here, low_bit_lem, off-short, off-same, off_other}
+use Rattle.laws.proofs.Visits.{low-here, low_bit_lem, low-off, off_less, off-short, off-same, off_other}
 use Rattle.tables.specs.declared.Delta.{Delta}
 use Rattle.tables.specs.Edges.{offset, minus, same, deltas, delta, among, are_neighbours, neighbour_mask}
 use Rattle.tables.specs.Inner.Offsets.{Small}
@@ -118,13 +118,14 @@ module _ (d : Delta) (fi : mag d.i < 2 ^ 7) (fj : mag d.j < 2 ^ 7) (fk : mag d.k
   told =
       rw (ex, ey, ez, to_z-of_z w8 d.i (record { sfits = fi }), to_z-of_z w8 d.j (record { sfits = fj }), to_z-of_z w8 d.k (record { sfits = fk })) (delta-by_sizes d)
 
-  pub told_no : (x + y + z ≡ 2 → ⊥) → false ≡ among d deltas
+  pub told_no : (x + y + z ≡ 2 → ⊥) → eqb (x + y + z) 2 ≡ among d deltas
   unfolding by_sizes
-  told_no n = sym (rw (ne_eqb (x + y + z) 2 n)) ∙ told
+  told_no n = ne_eqb (x + y + z) 2 n ∙ sym (rw (ne_eqb (x + y + z) 2 n)) ∙ told
 
-  pub told_second : x + y + z ≡ 2 → 2 ≤ y → false ≡ among d deltas
+  pub told_second : x + y + z ≡ 2 → (x + y + z ≡ 2 × 2 ≤ y) ⊎ (x + y + z ≡ 2 → ⊥) → ltb y 2 ≡ among d deltas
   unfolding by_sizes
-  told_second h hy = sym (rw (eq-eqb (x + y + z) 2 h, le-ltb y 2 hy)) ∙ told
+  told_second h e =
+      ⊎_elim (λ s. le-ltb y 2 s.1 ∙ sym (rw (eq-eqb (x + y + z) 2 h, le-ltb y 2 s.1)) ∙ told) (λ n. absurd (n h)) e
 
   pub told-third : x + y + z ≡ 2 → y < 2 → ltb z 2 ≡ among d deltas
   unfolding by_sizes
@@ -162,11 +163,14 @@ ask_start e m = record {
   all = λ f h. omega (arith, digit-zero f, digit_and m 0x3FFF f, digit-all 14 f h, digit_lt m f, digit_lt (neighbour_mask e) f);
 }
 
-module _ (e m left found : ℕ) (some : 0 < left) (a : Asking e m left found) where
+module _ (e m left found : ℕ) (more : left ≡ 0 → ⊥) (a : Asking e m left found) where
   abbrev low : ℕ
   low = count_trailing_zeros 16 left
 
-  low_14 : low < 14
+  some : 0 < left
+  some = omega arith
+
+  pub low_14 : low < 14
   low_14 = low-here 16 14 left (omega arith) some a.short
 
   there : digit left low ≡ 1
@@ -184,14 +188,21 @@ module _ (e m left found : ℕ) (some : 0 < left) (a : Asking e m left found) wh
       Holds : ℕ → Type 0
       Holds f = max (digit now f) (min (digit (neighbour_mask e) f) (digit (bit_xor left (2 ^ low)) f)) ≡ min (digit (neighbour_mask e) f) (digit m f)
 
-  pub ask_turn : (r : Bool) → r ≡ are_neighbours e low → Asking e m (bit_xor left (2 ^ low)) (bit_or found (bool_byte r * 2 ^ low % 2 ^ 16))
+  asked : (r : Bool) → r ≡ are_neighbours e low → Asking e m (bit_xor left (2 ^ low)) (bit_or found (bool_byte r * 2 ^ low % 2 ^ 16))
   unfolding bit
-  ask_turn true q =
+  asked true q =
       rw (low_bit_lem 16 14 left (omega arith) some a.short)
       (turn (bit_or found (2 ^ low)) (or_lt 14 found (2 ^ low) a.room (pow-lt low_14))
       (omega (arith, digit_or found (2 ^ low) low, digit-pow-same low, neighbour_rule e low low_14 ∙ ap bit (sym q), digit_lt found low))
       (λ f n. omega (arith, digit_or found (2 ^ low) f, digit-pow_other low f n)))
-  ask_turn false q = rw (zero-mul (2 ^ low), or_zero_r found) (turn found a.room (omega (arith, neighbour_rule e low low_14 ∙ ap bit (sym q))) (λ f n. refl))
+  asked false q = rw (zero-mul (2 ^ low), or_zero_r found) (turn found a.room (omega (arith, neighbour_rule e low low_14 ∙ ap bit (sym q))) (λ f n. refl))
+
+  -- `left & (left - 1)` is `left` without its lowest edge
+  pub ask_turn : (r : Bool) → r ≡ are_neighbours e low → Asking e m (bit_and left (left - 1)) (bit_or found (bool_byte r * 2 ^ low % 2 ^ 16))
+  ask_turn r q = rw (low-off 16 14 left (omega arith) some a.short) (asked r q)
+
+  pub ask_less : ones_in 14 (bit_and left (left - 1)) < ones_in 14 left
+  ask_less = rw (low-off 16 14 left (omega arith) some a.short) (off_less 16 14 left (omega arith) some a.short)
 
 pub ask_end : (e m left found : ℕ) → left ≡ 0 → Asking e m left found → found ≡ bit_and (neighbour_mask e) m
 ask_end e m left found z a =

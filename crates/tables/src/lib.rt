@@ -53,11 +53,8 @@ const EDGE_DELTAS: [[i8; 3]; 14] = [
 fn offset_of(row: [i8; 3]) -> Delta
     ensures { result ≡ offset (get_or row 0 (pos 0)) (get_or row 1 (pos 0)) (get_or row 2 (pos 0)) }
 {
-    Delta {
-        i: row[0],
-        j: row[1],
-        k: row[2],
-    }
+    let [i, j, k] = row;
+    Delta { i, j, k }
 }
 
 pub fn edge_delta(e: usize) -> Delta
@@ -81,11 +78,7 @@ pub fn reverse_edge(e: usize) -> usize
 fn size(x: i8) -> u8
     ensures { result ≡ size_of x }
 {
-    if x < 0 {
-        let m = -1 - x;
-        return (m as u8) + 1;
-    }
-    x as u8
+    x.unsigned_abs()
 }
 
 // Whether an offset is a delta: the sizes on the three axes add up to 2, and neither the second nor the third is 2.
@@ -95,12 +88,7 @@ pub fn is_delta(d: Delta) -> bool
     let i = size(d.i) as usize;
     let j = size(d.j) as usize;
     let k = size(d.k) as usize;
-    if i + j + k == 2 {
-        if j < 2 {
-            return k < 2;
-        }
-    }
-    false
+    i + j + k == 2 && j < 2 && k < 2
 }
 
 // a - b, for what is at most 2 on an axis.
@@ -214,15 +202,12 @@ pub fn flat_hole(i: usize) -> FlatHole
     requires { i < 36 }
     ensures { result ≡ flat_hole i }
 {
-    let rows = flat_hole_rows();
-    let row = rows[i];
-    FlatHole {
-        edges: row[0],
-        opposite: row[1],
-    }
+    let [edges, opposite] = FLAT_HOLE_MASKS[i];
+    FlatHole { edges, opposite }
 }
 
-// The corner of the cell to which each owned edge leads, du + 2 dv + 4 dw: label 0 in the lowest digit.
+// The corner of the cell to which each owned edge leads, du + 2 dv + 4 dw: label 0 in the lowest digit. It is one number and no table, since a table of
+// constants is written out wherever it is read, and this is read for every edge of a box.
 const LABEL_CORNERS: usize = 0x0467_5231;
 
 pub fn label_corner(label: usize) -> usize
@@ -265,11 +250,8 @@ pub fn tet_edge_pair(edge: usize) -> Ends
     requires { edge < 6 }
     ensures { result ≡ tet_pair edge }
 {
-    let pair = TET_EDGE_PAIRS[edge];
-    Ends {
-        from: pair[0],
-        to: pair[1],
-    }
+    let [from, to] = TET_EDGE_PAIRS[edge];
+    Ends { from, to }
 }
 
 // The edges of each tetrahedron by their owners: 7 times the owner's corner of the cell, and the owner's label.
@@ -318,6 +300,5 @@ pub fn mt_edge(case: usize, at: usize) -> usize
     requires { (case < 16) × (at < 6) }
     ensures { result ≡ get_or (flat (mt_row case)) at 0 }
 {
-    let row = MT_TABLE[case];
-    row[at] as usize
+    MT_TABLE[case][at] as usize
 }

@@ -1,5 +1,5 @@
 -- The edges of a mask one by one: the loop of `do_not_cluster`, and what the list of them says of the mask. Assumes nothing.
-use Rattle.std.proofs.Common.{◌≡◌, ℕ, ◌+◌, ◌*◌, ◌%◌, ◌^◌, ◌<◌, ◌≤◌, Bool, true, false, cond, List, [], ◌∷◌, map, length, set, replicate, sym, refl, ap, ◌∙◌, subst, ap₂, arith}
+use Rattle.std.proofs.Common.{◌≡◌, ℕ, ◌+◌, ◌^◌, ◌<◌, ◌≤◌, Bool, true, false, cond, List, [], ◌∷◌, map, length, set, replicate, sym, refl, ap, ◌∙◌, subst, ap₂, arith}
 use lib.Bits.{bit_xor, mask_lt}
 use lib.Count.{ones_in}
 use Rattle.laws.specs.Lists.{keep}
@@ -9,10 +9,11 @@ use Rattle.laws.specs.Inner.Visits.{set_places}
 use Rattle.laws.proofs.Ranges.{each_keep, each_map, each_same, each-le}
 use Rattle.laws.proofs.Filling.{fill_start, fill-room, fill-turn, fill_end}
 use Rattle.laws.proofs.Digits.{digit_set, digit_unset}
-use Rattle.laws.proofs.Visits.{places_none, places_low, places_turn, low-here, low_bit_lem, off-short, off_less}
+use Rattle.laws.proofs.Visits.{places_none, places_low, places_turn, off-short, off_less}
 use Rattle.topology.specs.Parts.{low}
-use Rattle.topology.specs.Walk.{fourteen}
+use Rattle.topology.specs.Walk.{fourteen, low_bit}
 use Rattle.topology.specs.Topology.{singles, clusters_of}
+use Rattle.topology.proofs.Walk.{low_bit_pos}
 
 -- what edge e of the mask gives
 abbrev pub at : ℕ → ℕ → List ℕ
@@ -69,12 +70,9 @@ pub record Left (m rem : ℕ) (masks : List ℕ) (n : ℕ) : Type 0 where
 pub left-start : (m : ℕ) → Left m (fourteen m) (replicate 14 0) 0
 left-start m = record { short = mask_lt m 14; fill = rw (singles-low m) (fill_start 14 0 (singles m)) }
 
-module _ (m rem : ℕ) (masks : List ℕ) (n : ℕ) (p : 0 < rem) (o : Left m rem masks n) where
-  pub left-low : low rem < 14
-  left-low = low-here 16 14 rem (omega arith) p o.short
-
-  pub left-bit : 1 * 2 ^ low rem % 65536 ≡ 2 ^ low rem
-  left-bit = low_bit_lem 16 14 rem (omega arith) p o.short
+module _ (m rem : ℕ) (masks : List ℕ) (n : ℕ) (more : rem ≡ 0 → ⊥) (o : Left m rem masks n) where
+  p : 0 < rem
+  p = omega arith
 
   step : Filling 14 0 (singles m) (2 ^ low rem ∷ singles (bit_xor rem (2 ^ low rem))) masks n
   step = subst (λ (x : List ℕ). Filling 14 0 (singles m) x masks n) (singles-turn rem p o.short) o.fill
@@ -82,14 +80,15 @@ module _ (m rem : ℕ) (masks : List ℕ) (n : ℕ) (p : 0 < rem) (o : Left m re
   pub left-room : n < 14
   left-room = fill-room step (singles-le m) (omega arith)
 
-  pub left-turn : Left m (bit_xor rem (2 ^ low rem)) (set masks n (2 ^ low rem)) (n + 1)
-  left-turn = record {
-    short = off-short 16 14 rem (omega arith) p o.short;
-    fill = fill-turn left-room step;
-  }
+  module _ (b : ℕ) (e : b ≡ low_bit rem) where
+    pub left-turn : Left m (bit_xor rem b) (set masks n b) (n + 1)
+    left-turn = rw (e, low_bit_pos rem p) (record {
+      short = off-short 16 14 rem (omega arith) p o.short;
+      fill = fill-turn left-room step;
+    })
 
-  pub left_less : ones_in 14 (bit_xor rem (2 ^ low rem)) < ones_in 14 rem
-  left_less = off_less 16 14 rem (omega arith) p o.short
+    pub left_less : ones_in 14 (bit_xor rem b) < ones_in 14 rem
+    left_less = rw (e, low_bit_pos rem p) (off_less 16 14 rem (omega arith) p o.short)
 
 pub left_end : (m rem : ℕ) (masks : List ℕ) (n : ℕ) → rem ≡ 0 → Left m rem masks n → record { count = n; masks = masks } ≡ clusters_of (singles m)
 left_end m rem masks n z o =

@@ -28,8 +28,8 @@ pub record Inner (m rem comp fr u v : ℕ) : Type 0 where
 zeros : (x b : ℕ) → 0 < x → x < 2 ^ 14 → b ≡ low_bit x → count_trailing_zeros 16 b ≡ low x
 zeros x b p h e = ap (count_trailing_zeros 16) (e ∙ low_bit_pos x p) ∙ low-pow 16 (low x) (omega (arith, low_14 x p h))
 
-pub zeros-lt : (x b : ℕ) → 0 < x → x < 2 ^ 14 → b ≡ low_bit x → count_trailing_zeros 16 b < 14
-zeros-lt x b p h e = omega (arith, zeros x b p h e, low_14 x p h)
+pub zeros-lt : (x b : ℕ) → (x ≡ 0 → ⊥) → x < 2 ^ 14 → b ≡ low_bit x → count_trailing_zeros 16 b < 14
+zeros-lt x b some h e = let p : 0 < x = omega arith in omega (arith, zeros x b p h e, low_14 x p h)
 
 pub inner_start : (m b u : ℕ) → 0 < m → m < 2 ^ 14 → b ≡ low_bit m → Inner (bit_xor (bit_xor m b) b) (bit_xor m b) 0 b u u
 unfolding first
@@ -129,7 +129,10 @@ pub components-le : (m : ℕ) → length (components m) ≤ 14
 unfolding components walks
 components-le m = in_le 14 (fourteen m)
 
-module _ (m rem : ℕ) (masks : List ℕ) (n v : ℕ) (p : 0 < rem) (o : Outer m rem masks n v) where
+module _ (m rem : ℕ) (masks : List ℕ) (n v : ℕ) (more : rem ≡ 0 → ⊥) (o : Outer m rem masks n v) where
+  p : 0 < rem
+  p = omega arith
+
   -- the next walk, and those after it
   record Following : Type 0 where
     fuel : ℕ
@@ -148,7 +151,7 @@ module _ (m rem : ℕ) (masks : List ℕ) (n v : ℕ) (p : 0 < rem) (o : Outer m
   pub outer_room : n < 14
   outer_room = fill-room following.fill (components-le m) (omega arith)
 
-  pub outer_turn : (comp rest own v' : ℕ) → v' ≡ v + own → first rem ≡ record { comp = comp; rest = rest; visits = own } → Outer m rest (set masks n comp) (n + 1) v'
+  outer_turn : (comp rest own v' : ℕ) → v' ≡ v + own → first rem ≡ record { comp = comp; rest = rest; visits = own } → Outer m rest (set masks n comp) (n + 1) v'
   outer_turn comp rest own v' ev e =
       subst (λ (x : ℕ). Outer m rest (set masks n comp) (n + 1) x) (sym ev)
       (subst (λ (w : Walked). Outer m w.rest (set masks n w.comp) (n + 1) (v + w.visits)) e
@@ -160,13 +163,24 @@ module _ (m rem : ℕ) (masks : List ℕ) (n v : ℕ) (p : 0 < rem) (o : Outer m
         to_come = omega (arith, following.to_come);
       }))
 
-  pub outer_less : (comp rest own : ℕ) → first rem ≡ record { comp = comp; rest = rest; visits = own } → ones_in 14 rest < ones_in 14 rem
+  outer_less : (comp rest own : ℕ) → first rem ≡ record { comp = comp; rest = rest; visits = own } → ones_in 14 rest < ones_in 14 rem
   outer_less comp rest own e = subst (λ (w : Walked). ones_in 14 w.rest < ones_in 14 rem) e (rest-less rem p o.short)
 
-pub outer_end : (m rem : ℕ) (masks : List ℕ) (n v : ℕ) → rem ≡ 0 → Outer m rem masks n v → record { count = n; masks = masks; visits = v } ≡ components_of m
+  -- after a walk from the lowest edge b to an empty frontier
+  module _ (b comp rest fr v' : ℕ) (e : b ≡ low_bit rem) (z : fr ≡ 0) (j : Inner (bit_xor (bit_xor rem b) b) rest comp fr v v') where
+    walked : (own : ℕ) × (v' ≡ v + own) × (first rem ≡ record { comp = comp; rest = rest; visits = own })
+    walked = inner_end rem b rest comp fr v v' p o.short e z j
+
+    pub outer_next : Outer m rest (set masks n comp) (n + 1) v'
+    outer_next = outer_turn comp rest walked.0 v' walked.1 walked.2
+
+    pub outer_fewer : ones_in 14 rest < ones_in 14 rem
+    outer_fewer = outer_less comp rest walked.0 walked.2
+
+pub outer_end : (m rem : ℕ) (masks : List ℕ) (n v : ℕ) → rem ≡ 0 → Outer m rem masks n v → record { clusters = record { count = n; masks = masks }; visits = v } ≡ components_of m
 unfolding total
 outer_end m rem masks n v z o =
     let none : walks_in o.fuel rem ≡ [] = ap (walks_in o.fuel) z ∙ stop o.fuel in
     let done = fill_end (subst (λ (x : List Walked). Filling 14 0 (components m) (finds x) masks n) none o.fill) in
     let all : v ≡ visits m = omega (arith, o.to_come, ap taken none) in
-    λ i. record { count = done.0 i; masks = done.1 i; visits = all i }
+    λ i. record { clusters = record { count = done.0 i; masks = done.1 i }; visits = all i }

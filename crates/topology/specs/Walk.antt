@@ -63,4 +63,4 @@ visits m = total (λ w. w.visits) (walks m)
 
 -- as the walk answers: how many components, in fourteen places, and the visits
 abbrev pub components_of : ℕ → Components
-components_of m = record { count = length (components m); masks = padded 14 0 (components m); visits = visits m }
+components_of m = record { clusters = record { count = length (components m); masks = padded 14 0 (components m) }; visits = visits m }

@@ -19,7 +19,7 @@ pub enum TopologyCase {
     DoNotCluster,
 }
 
-// The edges of each cluster, as masks.
+// The edges of each cluster, as masks: how many, and fourteen places, since there is no heap and a site has at most fourteen.
 #[derive(Clone, Copy)]
 pub struct Clusters {
     pub count: usize,
@@ -51,8 +51,7 @@ pub fn case_number(case: TopologyCase) -> usize
 // The connected components of a mask, in order of their lowest edge, and how many edges were taken from the frontier to find them.
 #[derive(Clone, Copy)]
 pub struct Components {
-    pub count: usize,
-    pub masks: [u16; 14],
+    pub clusters: Clusters,
     pub visits: usize,
 }
 
@@ -89,11 +88,8 @@ pub fn connected_components_masks(edge_mask: u16) -> Components
         masks[count] = comp;
         count += 1;
     }
-    Components {
-        count,
-        masks,
-        visits,
-    }
+    let clusters = Clusters { count, masks };
+    Components { clusters, visits }
 }
 
 // How many edges the walks over a mask will take, before any is made.
@@ -172,8 +168,7 @@ fn is_flat_hole(surface_comp: u16, ends: [Option<f64>; 14], h: f64) -> bool
 {
     let rows = tables::flat_hole_rows();
     for row in &rows {
-        let edge_mask = row[0];
-        let opposite_mask = row[1];
+        let [edge_mask, opposite_mask] = *row;
         if surface_comp & edge_mask != 0 {
             continue;
         }
@@ -197,8 +192,7 @@ fn do_not_cluster(edge_mask: u16) -> Clusters
     let mut masks = [0u16; 14];
     let mut count: usize = 0;
     while left != 0 {
-        let e = u16::trailing_zeros(left);
-        let b = 1u16 << e;
+        let b = lowbit(left);
         left ^= b;
         masks[count] = b;
         count += 1;
@@ -224,6 +218,16 @@ fn one_cluster(edge_mask: u16) -> Clusters
     Clusters { count: 1, masks }
 }
 
+fn answer(case: TopologyCase, clusters: Clusters, visits: usize) -> TopologyResult
+    ensures { result ≡ record { case = case; clusters = clusters; visits = visits } }
+{
+    TopologyResult {
+        case,
+        clusters,
+        visits,
+    }
+}
+
 // The case of a site and its clusters: the mask of its near intersections, whether to cluster, and the samples at the other ends
 // of its edges. One that is not finite counts as missing.
 pub fn test_topology(
@@ -236,62 +240,29 @@ pub fn test_topology(
 {
     let m = near_mask & ALL14_MASK;
     if m == 0 {
-        let clusters = no_cluster();
-        return TopologyResult {
-            case: TopologyCase::SimpleSurface,
-            clusters,
-            visits: 0,
-        };
+        return answer(TopologyCase::SimpleSurface, no_cluster(), 0);
     }
     if !cluster {
-        let clusters = do_not_cluster(m);
-        return TopologyResult {
-            case: TopologyCase::DoNotCluster,
-            clusters,
-            visits: 0,
-        };
+        return answer(TopologyCase::DoNotCluster, do_not_cluster(m), 0);
     }
     if m == ALL14_MASK {
-        let clusters = do_not_cluster(m);
-        return TopologyResult {
-            case: TopologyCase::ClosedSurface,
-            clusters,
-            visits: 0,
-        };
+        return answer(TopologyCase::ClosedSurface, do_not_cluster(m), 0);
     }
     let surfaces = connected_components_masks(m);
-    if surfaces.count > 1 {
-        let count = surfaces.count;
-        let masks = surfaces.masks;
-        let clusters = Clusters { count, masks };
-        return TopologyResult {
-            case: TopologyCase::MultiSurface,
-            clusters,
-            visits: surfaces.visits,
-        };
+    if surfaces.clusters.count > 1 {
+        return answer(
+            TopologyCase::MultiSurface,
+            surfaces.clusters,
+            surfaces.visits,
+        );
     }
     let holes = connected_components_masks(ALL14_MASK & !m);
     let total = surfaces.visits + holes.visits;
-    if holes.count != 1 {
-        let clusters = do_not_cluster(m);
-        return TopologyResult {
-            case: TopologyCase::MultiHole,
-            clusters,
-            visits: total,
-        };
+    if holes.clusters.count != 1 {
+        return answer(TopologyCase::MultiHole, do_not_cluster(m), total);
     }
     if is_flat_hole(m, ends, h) {
-        let clusters = do_not_cluster(m);
-        return TopologyResult {
-            case: TopologyCase::FlatHole,
-            clusters,
-            visits: total,
-        };
+        return answer(TopologyCase::FlatHole, do_not_cluster(m), total);
     }
-    let clusters = one_cluster(m);
-    TopologyResult {
-        case: TopologyCase::SimpleSurface,
-        clusters,
-        visits: total,
-    }
+    answer(TopologyCase::SimpleSurface, one_cluster(m), total)
 }

@@ -7,6 +7,7 @@ ghost use Rattle.volume.specs.Volume.{told};
 ghost use Rattle.volume_file.specs.Words.{WordsOf};
 ghost use Rattle.volume_file.specs.Text.{six_line, volume_line, volume_text, answer_text, scale_of, MeasuredAt};
 
+use file_build::WorkSpace;
 use volume::{Refusal, Whole};
 
 // ---- the words
@@ -110,21 +111,8 @@ fn scale_of(d: usize) -> f64
 pub fn volume_text(input: &[u8], digits: usize, origin: Whole, out: &mut [u8; 161]) -> usize
     ensures { MeasuredAt digits origin input.now out.old out.new result }
 {
-    let mut masks = [0u16; count_file::SITES];
-    let mut table = [0u32; 1512];
-    let mut positions = [0.0; 6804];
-    let mut book = [0u32; 9072];
-    let mut triangles = [0u32; 7776];
-    let mut edges = [0u32; 23328];
-    let built = file_build::build_file(
-        input,
-        &mut masks,
-        &mut table,
-        &mut positions,
-        &mut book,
-        &mut triangles,
-        &mut edges,
-    );
+    let mut space = WorkSpace::new();
+    let built = space.build(input);
     let answer = built.answer;
     let status = answer.status;
     if status != 0 {
@@ -133,6 +121,6 @@ pub fn volume_text(input: &[u8], digits: usize, origin: Whole, out: &mut [u8; 16
     let v = answer.vertices * 3;
     let t = answer.triangles * 3;
     let scale = scale_of(digits);
-    let found = volume::volume_of(&positions[..v], &triangles[..t], scale, origin);
+    let found = volume::volume_of(&space.positions[..v], &space.triangles[..t], scale, origin);
     print(out, digits, answer.triangles as u64, found)
 }

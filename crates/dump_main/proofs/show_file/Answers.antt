@@ -17,4 +17,4 @@ sampled o l l' a b z =
 
 pub dump-requires : goal.dump-requires
 dump-requires g c =
-    rw c.floats_of-samples.ensures (sampled _ _ _ _ (built-read c.in-Some.file c.in-Some.is c.build_file-built.ensures) c.if-answer-eq0.true)
+    rw c.floats_of-samples.ensures (sampled _ _ _ _ (built-read c.in-Some.file c.in-Some.is c.build-built.ensures) c.if-answer-eq0.true)

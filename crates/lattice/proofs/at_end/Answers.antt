@@ -7,6 +7,6 @@ pub returns-then-x-eq0 : goal.returns-then-x-eq0
 unfolding at_end
 returns-then-x-eq0 c = rw (eq-eqb c.args.x 0 c.if-x-eq0.true)
 
-pub returns : goal.returns
+pub returns-else-x-eq0 : goal.returns-else-x-eq0
 unfolding at_end
-returns c = rw (ne_eqb c.args.x 0 c.if-x-eq0.false)
+returns-else-x-eq0 c = rw (ne_eqb c.args.x 0 c.if-x-eq0.false)

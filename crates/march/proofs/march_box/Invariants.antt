@@ -1,5 +1,5 @@
--- The invariant and the measure of each loop of `march::march_box`. Assumes nothing.
-use Prim.Native.Nat.{◌≤◌, ◌-◌}
+-- The triangles of the layers passed are written.
+use Rattle.std.proofs.Common.{◌≤◌}
 use Rattle.laws.specs.Ranges.{each}
 use Rattle.laws.specs.Written.{Written}
 use Rattle.march.proofs.Walk.{tail_flat}
@@ -7,6 +7,3 @@ use Rattle.march.proofs.march_box.Given as goal
 
 abbrev pub invariant-loop-w : goal.invariant-loop-w
 invariant-loop-w l = (l.w ≤ l.m) × Written l.initial.tris 0 (each l.w (tail_flat l.nu l.nv l.samples l.h l.edges)) l.tris l.next
-
-abbrev pub decreases-loop-w : goal.decreases-loop-w
-decreases-loop-w l = l.m - l.w

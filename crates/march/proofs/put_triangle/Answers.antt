@@ -1,4 +1,4 @@
--- `march::put_triangle` meets its contract. Assumes nothing.
+-- `march::put_triangle` meets its contract.
 use Rattle.laws.proofs.Written.{written_none}
 use Rattle.march.specs.Inner.Loop.{unless_twice}
 use Rattle.march.proofs.put_triangle.Goals as goal

@@ -1,29 +1,24 @@
 -- `points::edge_point` meets its contract. Assumes nothing.
-use Rattle.std.specs.Prelude.{Some}
-use mathlib.Core.Path.{◌≡◌, sym, ◌∙◌}
-use mathlib.Core.Bool.{true}
-use lib.Ieee.{Float}
-use Rattle.samples.specs.Sides.{finite, point_fraction}
-use Rattle.lattice.specs.declared.Ijk.{Ijk}
-use Rattle.points.specs.declared.Point.{Point}
-use Rattle.points.specs.declared.Frame.{Frame}
-use Rattle.points.specs.Positions.{position}
-use Rattle.points.specs.EdgePoints.{interpolate, edge_point}
+use Rattle.std.proofs.Common.{◌≡◌, ◌&&◌}
+use Rattle.samples.specs.Sides.{finite}
+use Rattle.points.specs.EdgePoints.{edge_point}
 use Rattle.points.proofs.edge_point.Goals as goal
+use Rattle.points.proofs.edge_point.Goals.{then-is_finite, else-is_finite}
 
-met : (f : Frame) (a b : Ijk) (p q : Float) (x y : Point) (t : Float) (r : Point) → finite p ≡ true → finite q ≡ true
-    → x ≡ position f a → y ≡ position f b → t ≡ point_fraction p q → r ≡ interpolate x y t → Some r ≡ edge_point f a b p q
+pub returns-then-not-is_finite : goal.returns-then-not-is_finite
 unfolding edge_point
-met f a b p q x y t r g h d e k m = rw (g, h, m, d, e, k)
+returns-then-not-is_finite c =
+    let both : c.if-is_finite.value ≡ finite c.args.p && finite c.args.q = elim c.if-is_finite.branch [
+      | then-is_finite w ↦ rw (w.value-is, w.is_finite-then-is_finite.ensures, ← c.is_finite.ensures, w.if-is_finite.true)
+      | else-is_finite w ↦ rw (w.value-is, ← c.is_finite.ensures, w.if-is_finite.false)
+    ] in
+    rw (← both, c.if-not-is_finite.true)
 
-pub returns-then-is_finite-2 : goal.returns-then-is_finite-2
-returns-then-is_finite-2 c = met _ _ _ _ _ _ _ _ _ (sym c.is_finite.ensures ∙ c.if-is_finite.true) (sym c.is_finite-then-is_finite.ensures ∙ c.if-is_finite-2.true)
-    c.position_of-from.ensures c.position_of-to.ensures c.point_fraction-t.ensures c.interpolate_points.ensures
-
-pub returns-else-is_finite-2 : goal.returns-else-is_finite-2
+pub returns : goal.returns
 unfolding edge_point
-returns-else-is_finite-2 c = rw (← c.is_finite.ensures, c.if-is_finite.true, ← c.is_finite-then-is_finite.ensures, c.if-is_finite-2.false)
-
-pub returns-else-is_finite : goal.returns-else-is_finite
-unfolding edge_point
-returns-else-is_finite c = rw (← c.is_finite.ensures, c.if-is_finite.false)
+returns c =
+    let both : c.if-is_finite.value ≡ finite c.args.p && finite c.args.q = elim c.if-is_finite.branch [
+      | then-is_finite w ↦ rw (w.value-is, w.is_finite-then-is_finite.ensures, ← c.is_finite.ensures, w.if-is_finite.true)
+      | else-is_finite w ↦ rw (w.value-is, ← c.is_finite.ensures, w.if-is_finite.false)
+    ] in
+    rw (← both, c.if-not-is_finite.false, c.interpolate_points.ensures, c.position_of-from.ensures, c.position_of-to.ensures, c.point_fraction-t.ensures)

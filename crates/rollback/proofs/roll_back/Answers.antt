@@ -1,5 +1,4 @@
 -- `rollback::roll_back` meets its contract. Assumes nothing.
-use native.Mathlib.Omega.{arith}
 use Rattle.rollback.proofs.Rounds.{sofar_start, sofar_ready, sofar_turn, sofar_done}
 use Rattle.rollback.proofs.roll_back.Goals as goal
 
@@ -11,26 +10,11 @@ roll_turn-next-requires c = let a = c.args in
     let at = c.loop-i in
     sofar_ready a.frame a.n a.samples.now a.masks.now a.table.now a.positions.now a.book.now a.flags.now a.count a.round at.i at.next at.table at.positions at.book at.invariant c.requires c.loop-i-test.true
 
-pub overflow_step-i : goal.overflow_step-i
-overflow_step-i c = omega arith
-
-pub loop-i-smaller : goal.loop-i-smaller
-loop-i-smaller c = omega arith
-
 pub loop-i-preserved : goal.loop-i-preserved
 loop-i-preserved c = let a = c.args in
     let at = c.loop-i in
     let call = c.roll_turn-next in
     sofar_turn a.frame a.n a.samples.now a.masks.now a.table.now a.positions.now a.book.now a.flags.now a.count a.round at.i at.next at.table at.positions at.book at.invariant call.result _ _ _ c.loop-i-test.true call.ensures call.auto.table call.auto.positions call.auto.book
-
-pub shape_of-table : goal.shape_of-table
-shape_of-table c = c.loop-i.invariant.long
-
-pub shape_of-positions : goal.shape_of-positions
-shape_of-positions c = c.loop-i.invariant.long_positions
-
-pub shape_of-book : goal.shape_of-book
-shape_of-book c = c.loop-i.invariant.long_book
 
 pub returns : goal.returns
 returns c = let a = c.args in

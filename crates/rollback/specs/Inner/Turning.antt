@@ -4,7 +4,6 @@ use Rattle.std.proofs.lemmas.List.Edits.{sets}
 use Rattle.laws.specs.Digits.{is_set, mask}
 use Rattle.lattice.specs.declared.Sides.{Sides}
 use Rattle.lattice.specs.Sites.{sites}
-use Rattle.marks.specs.Inner.Loops.{Sampled}
 use Rattle.march.specs.March.{none}
 use Rattle.points.specs.declared.Frame.{Frame}
 use Rattle.stages.specs.Boxes.{owned}
@@ -30,19 +29,16 @@ grown n S m t k i r = singles_of n S r (get_or k (4 * i) 0) (held_mask n t (get_
 unfoldable pub due : List ℕ → List ℕ → ℕ → Bool
 due k flags i = ltb 1 (get_or k (4 * i + 1) 0) && eqb (get_or flags (get_or k (4 * i) 0) 0) 1
 
--- vertex i has a row, its site is in the box, and the lists have its marks and its places
-pub record Placed (n : Sides) (S : List Float) (m t k : List ℕ) (i : ℕ) : Type 0 where
-  pub sampled : Sampled n S
-  pub masks : sites n ≤ length m
+-- vertex i has a row, its site is in the box, and the edge table has its places
+pub record Placed (n : Sides) (t k : List ℕ) (i : ℕ) : Type 0 where
   pub table : 7 * sites n ≤ length t
   pub row : 4 * i + 4 ≤ length k
   pub site : get_or k (4 * i) 0 < sites n
   pub few : i < 1048576
 
--- what a turn needs: the flags, and room for what it appends where vertex i is due
+-- what a turn needs: its vertex, and room for what it appends where vertex i is due
 pub record Turnable (n : Sides) (S : List Float) (m flags : List ℕ) (i c round : ℕ) (t : List ℕ) (p : List Float) (k : List ℕ) : Type 0 where
-  pub placed : Placed n S m t k i
-  pub flagged : sites n ≤ length flags
+  pub placed : Placed n t k i
   pub room : due k flags i ≡ true → Space p k (c + length (grown n S m t k i round))
 
 -- The vertices us take the place of vertex i: they are appended, the first of them numbered c, and it is retired.

@@ -3,7 +3,6 @@ use Rattle.std.specs.Prelude.{◌≡◌, List, [], ◌∷◌, map, ℕ, ◌*◌,
 use Rattle.std.proofs.lemmas.List.Edits.{sets}
 use Rattle.lattice.specs.declared.Sides.{Sides}
 use Rattle.lattice.specs.Sites.{sites}
-use Rattle.marks.specs.Inner.Loops.{Sampled}
 use Rattle.points.specs.declared.Frame.{Frame}
 use Rattle.points.specs.declared.Point.{Point}
 use Rattle.points.specs.declared.Sum.{Sum}
@@ -13,9 +12,8 @@ use Rattle.stages.specs.Samples.{edges_of, points_of}
 use Rattle.stages.specs.Inner.Steps.{paint}
 use Rattle.site_vertices.specs.Inner.Appending.{pointed_of}
 
--- the site is in a box that has its samples, and the edge table has seven places a site
-pub record Drawable (n : Sides) (S : List Float) (t : List ℕ) (s : ℕ) : Type 0 where
-  pub sampled : Sampled n S
+-- the site is in the box, and the edge table has seven places a site
+pub record Tabled (n : Sides) (t : List ℕ) (s : ℕ) : Type 0 where
   pub low : s < sites n
   pub table : 7 * sites n ≤ length t
 

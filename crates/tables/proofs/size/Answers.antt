@@ -1,22 +1,14 @@
 -- `tables::size` meets its contract. Assumes nothing.
-use mir.Syntax.{w8}
-use Rattle.laws.proofs.Sizes.{turned_fits, turned_cast, turned_room, turned_size, high_cast, high_size}
+use Rattle.std.proofs.Common.{◌≡◌, refl, ap, ◌∙◌, w8, ℤ, pos, negsuc, nat_abs}
+use mir.ValLaws.{to_z-of_z}
+use Rattle.laws.specs.Ints.{size_of}
 use Rattle.tables.proofs.size.Goals as goal
 
-pub overflow_sub-m : goal.overflow_sub-m
-overflow_sub-m c = turned_fits w8 c.args.x c.ranges.x c.if-x-lt0.true
-
-pub overflow_cast-result : goal.overflow_cast-result
-overflow_cast-result c = turned_cast w8 c.args.x c.ranges.x c.if-x-lt0.true
-
-pub overflow_add-result : goal.overflow_add-result
-overflow_add-result c = turned_room w8 c.args.x c.ranges.x c.if-x-lt0.true
-
-pub returns-then-x-lt0 : goal.returns-then-x-lt0
-returns-then-x-lt0 c = turned_size w8 c.args.x c.ranges.x c.if-x-lt0.true
-
-pub overflow_cast-result-2 : goal.overflow_cast-result-2
-overflow_cast-result-2 c = high_cast w8 c.args.x c.ranges.x c.if-x-lt0.false
+-- the library's size of a number is the definition's
+size-abs : (z : ℤ) → nat_abs z ≡ size_of z
+unfolding size_of
+size-abs (pos n) = refl
+size-abs (negsuc n) = refl
 
 pub returns : goal.returns
-returns c = high_size w8 c.args.x c.ranges.x c.if-x-lt0.false
+returns c = c.unsigned_abs.ensures.value ∙ ap nat_abs (to_z-of_z w8 c.args.x c.ranges.x) ∙ size-abs c.args.x

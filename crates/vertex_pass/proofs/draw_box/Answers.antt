@@ -9,9 +9,6 @@ use Prim.Native.Nat.{◌<◌}
 use native.Mathlib.Omega.{arith}
 use Rattle.vertex_pass.proofs.draw_box.Goals as goal
 
-pub empty_table-requires : goal.empty_table-requires
-empty_table-requires c = tt
-
 pub site_count-k-requires : goal.site_count-k-requires
 site_count-k-requires c = c.requires.masked.0.sampled.fit
 
@@ -25,13 +22,7 @@ pub draw_at-at-requires : goal.draw_at-at-requires
 draw_at-at-requires c = let a = c.args in
     let at = c.loop-s in
     let l : at.s < sites a.n = omega (arith, at.invariant.1, c.loop-s-test.true) in
-    record { masked = (c.requires.masked.0, record { sampled = c.requires.masked.0.sampled; low = l; table = omega (arith, at.invariant.0.long) }); ahead = walking_ahead a.frame a.n a.samples.now a.h a.cluster (flag_of a.flags.now) a.positions.now a.book.now at.s at.at at.table at.positions at.book at.invariant.0 c.requires.ahead l; cases_before = at.invariant.0.cases }
-
-pub overflow_step-s : goal.overflow_step-s
-overflow_step-s c = omega arith
-
-pub loop-s-smaller : goal.loop-s-smaller
-loop-s-smaller c = omega arith
+    record { drawable = record { low = l; table = omega (arith, at.invariant.0.long) }; ahead = walking_ahead a.frame a.n a.samples.now a.h a.cluster (flag_of a.flags.now) a.positions.now a.book.now at.s at.at at.table at.positions at.book at.invariant.0 c.requires.ahead l; cases_before = at.invariant.0.cases }
 
 pub loop-s-preserved : goal.loop-s-preserved
 loop-s-preserved c = let a = c.args in
