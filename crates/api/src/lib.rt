@@ -96,11 +96,7 @@ pub fn spoonthicket_build(
 fn ends_at(ends: &[f64; 14]) -> [Option<f64>; 14]
     ensures { result ≡ ends_at ends.now }
 {
-    let mut known = [None; 14];
-    for e in 0..14 {
-        known[e] = Some(ends[e]);
-    }
-    known
+    ends.map(Some)
 }
 
 // The topology test of one mask, with any threshold: the case's number; the clusters' masks, zeros behind them; and how many edges its walks took from their frontiers.

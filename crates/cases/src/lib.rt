@@ -1,5 +1,6 @@
 // The cases of a tetrahedron and of a site, from the samples of the corners; and the numbers of the corners, by which the march finds its cases.
 // The threshold h is a parameter of every function that asks for a side.
+// Callers hold plain sides and coordinates, so that a cell is in its box (`Placed`) stands in each clause and in no type.
 #![tactic(auto)]
 
 ghost use Rattle.std.specs.Prelude.{◌≡◌, ◌+◌, ◌<◌, ◌≤◌, length};

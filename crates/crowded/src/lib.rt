@@ -1,4 +1,5 @@
 // Flags behind the flags of the sides: which vertices are ends of a side that is crowded, and which sites own a live cluster vertex in a triangle with such a side.
+// The list that is lent to be filled stays a parameter, with what is asked of it: of a field behind a `&mut` that is lent as a `&` no fact says what it holds afterwards.
 #![tactic(auto)]
 
 ghost use Rattle.std.specs.Prelude.{◌≡◌, false, ◌+◌, ◌*◌, ◌/◌, ◌<◌, ltb, length, get_or};

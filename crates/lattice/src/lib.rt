@@ -1,5 +1,6 @@
 // The box of sites: sides, site numbers, coordinates (u, v, w) and ijk, the site across an edge, the owner of an edge.
-// A function with a `requires` is called by crates that have tested the sides at their door.
+// A function with a `requires` is called by crates that have tested the sides at their door. They hold plain sides, whose fields C and files give, so that the
+// sides fit stands in each clause and in no type.
 #![tactic(auto)]
 
 ghost use Rattle.std.specs.Prelude.{◌≡◌, ◌+◌, ◌*◌, ◌<◌, pos, ◌-ℤ◌};

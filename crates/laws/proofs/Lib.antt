@@ -16,3 +16,4 @@ pub mod Triangles
 pub mod Ints
 pub mod Sizes
 pub mod Floats
+pub mod Arrays

@@ -1,4 +1,5 @@
 // Numbers and lines as text, read and printed: one line with its key, and runs of lines whose keys stand one after the other in one byte string.
+// A place in a text is its caller's number, who goes on from it in lists of other lines: that it is no further than the end stands in each clause.
 #![tactic(auto)]
 
 ghost use Rattle.std.specs.Prelude.{◌≡◌, ◌+◌, ◌*◌, ◌≤◌, ◌<◌, eqb, leb, nat_eq, length, drop, get_or, position};

@@ -1,5 +1,5 @@
 // The sample view: the caller's samples together with the sides of the box, and the value at a site, at (u, v, w) and across an edge.
-// The lookups stand on a plain slice; the functions over the struct are thin.
+// The lookups stand on a plain slice, for callers that hold a slice and sides; the functions over the struct are one call each, and no shorter as the only ones.
 #![tactic(auto)]
 
 ghost use Rattle.std.specs.Prelude.{◌≡◌};

@@ -1,5 +1,5 @@
 // The constant tables of the lattice's fourteen edges and of the march, each read by a function with an exact promise, and the neighbours of an edge, worked out.
-// Every index is the caller's to keep in range: the callers are loops over the tables' own sizes.
+// Every index is the caller's to keep in range: the callers are loops over the tables' own sizes, and a type for an index would be made at every turn.
 #![tactic(auto)]
 
 ghost use Rattle.std.specs.Prelude.{◌≡◌, map, suc, ◌≤◌, ◌<◌, length, get_or, pos, ◌-ℤ◌};

@@ -1,4 +1,5 @@
 // Prints the tables, and the owners of sample pairs of places, as the oracle prints those of the Rust.
+// An index is a number below its table's length, which the loops over the tables give: a type for it would be made at every turn.
 #![tactic(auto)]
 
 ghost use Rattle.std.specs.Prelude.{◌<◌};
