@@ -202,7 +202,8 @@ pub fn flat_hole(i: usize) -> FlatHole
     requires { i < 36 }
     ensures { result ≡ flat_hole i }
 {
-    let [edges, opposite] = FLAT_HOLE_MASKS[i];
+    let rows = flat_hole_rows();
+    let [edges, opposite] = rows[i];
     FlatHole { edges, opposite }
 }
 

@@ -1,5 +1,5 @@
 -- The edges of a mask one by one: the loop of `do_not_cluster`, and what the list of them says of the mask. Assumes nothing.
-use Rattle.std.proofs.Common.{◌≡◌, ℕ, ◌+◌, ◌^◌, ◌<◌, ◌≤◌, Bool, true, false, cond, List, [], ◌∷◌, map, length, set, replicate, sym, refl, ap, ◌∙◌, subst, ap₂, arith}
+use Rattle.std.proofs.Common.{◌≡◌, ℕ, ◌+◌, ◌*◌, ◌%◌, ◌^◌, ◌<◌, ◌≤◌, Bool, true, false, cond, List, [], ◌∷◌, map, length, set, replicate, sym, refl, ap, ◌∙◌, subst, ap₂, arith}
 use lib.Bits.{bit_xor, mask_lt}
 use lib.Count.{ones_in}
 use Rattle.laws.specs.Lists.{keep}
@@ -9,7 +9,7 @@ use Rattle.laws.specs.Inner.Visits.{set_places}
 use Rattle.laws.proofs.Ranges.{each_keep, each_map, each_same, each-le}
 use Rattle.laws.proofs.Filling.{fill_start, fill-room, fill-turn, fill_end}
 use Rattle.laws.proofs.Digits.{digit_set, digit_unset}
-use Rattle.laws.proofs.Visits.{places_none, places_low, places_turn, off-short, off_less}
+use Rattle.laws.proofs.Visits.{places_none, places_low, places_turn, low-here, low_bit_lem, off-short, off_less}
 use Rattle.topology.specs.Parts.{low}
 use Rattle.topology.specs.Walk.{fourteen, low_bit}
 use Rattle.topology.specs.Topology.{singles, clusters_of}
@@ -73,6 +73,12 @@ left-start m = record { short = mask_lt m 14; fill = rw (singles-low m) (fill_st
 module _ (m rem : ℕ) (masks : List ℕ) (n : ℕ) (more : rem ≡ 0 → ⊥) (o : Left m rem masks n) where
   p : 0 < rem
   p = omega arith
+
+  pub left-low : low rem < 14
+  left-low = low-here 16 14 rem (omega arith) p o.short
+
+  pub left-bit : 1 * 2 ^ low rem % 65536 ≡ low_bit rem
+  left-bit = low_bit_lem 16 14 rem (omega arith) p o.short ∙ sym (low_bit_pos rem p)
 
   step : Filling 14 0 (singles m) (2 ^ low rem ∷ singles (bit_xor rem (2 ^ low rem))) masks n
   step = subst (λ (x : List ℕ). Filling 14 0 (singles m) x masks n) (singles-turn rem p o.short) o.fill

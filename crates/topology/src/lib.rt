@@ -167,13 +167,13 @@ fn is_flat_hole(surface_comp: u16, ends: [Option<f64>; 14], h: f64) -> bool
     ensures { result ≡ is_flat surface_comp ends h }
 {
     let rows = tables::flat_hole_rows();
-    for row in &rows {
+    'rows: for row in &rows {
         let [edge_mask, opposite_mask] = *row;
         if surface_comp & edge_mask != 0 {
-            continue;
+            continue 'rows;
         }
         if surface_comp & opposite_mask != opposite_mask {
-            continue;
+            continue 'rows;
         }
         let off = two_edge_indices(edge_mask);
         let on = two_edge_indices(opposite_mask);
@@ -192,7 +192,8 @@ fn do_not_cluster(edge_mask: u16) -> Clusters
     let mut masks = [0u16; 14];
     let mut count: usize = 0;
     while left != 0 {
-        let b = lowbit(left);
+        let e = u16::trailing_zeros(left);
+        let b = 1u16 << e;
         left ^= b;
         masks[count] = b;
         count += 1;
