@@ -19,10 +19,10 @@ use Rattle.lattice.specs.declared.Sides.{Sides}
 use Rattle.lattice.specs.declared.Uvw.{Uvw}
 use Rattle.lattice.specs.Sites.{SidesFit, sites, InBox, site_of}
 use Rattle.lattice.specs.Across.{across_of}
-use Rattle.lattice.proofs.Sites.{site-lt, sites-most}
+use Rattle.lattice.proofs.Sites.{site-lt}
 use Rattle.lattice.proofs.OtherEnds.{across-joined}
 use Rattle.marks.specs.Marks.{sample, crossed_by, is_crossed, crossed_count}
-use Rattle.marks.specs.Inner.Loops.{mark_to, mark_crossing, mark_label, mark_site, mark_sites, mark_row, mark_layer, from_layer, cross_site, cross_sites, cross_row, cross_layer, Room, Sampled}
+use Rattle.marks.specs.Inner.Loops.{mark_site, mark_sites, mark_row, mark_layer, from_layer, cross_site, cross_sites, cross_row, cross_layer, Sampled}
 use Rattle.marks.proofs.Layers.{below, shifted, across_shift}
 
 -- the site across an owned edge is in the box
@@ -54,6 +54,13 @@ cross_some n S h s l t b a e = sym (ap (λ (o : Option ℕ). bit (crossed_by S h
 pub row-site : (n : Sides) (u v : ℕ) → v * n.nu + u ≡ site_of n u v 0
 unfolding site_of
 row-site n u v = omega (arith, mul_comm v n.nu)
+
+row-end : (v nv nu : ℕ) → v < nv → v * nu + nu ≤ nv * nu
+row-end v nv nu h = rw suc-mul at (mul-le-mul_right nu h)
+
+-- its number stays small
+pub row-small : (n : Sides) (u v : ℕ) → SidesFit n → u < n.nu → v < n.nv → v * n.nu + u < 1024
+row-small n u v f hu hv = omega (arith, row-end v n.nv n.nu hv, f.u_most, f.v_most, mul-le-mul_right n.nu f.v_most)
 
 pub row-box : (n : Sides) (u v : ℕ) → SidesFit n → u < n.nu → v < n.nv → InBox n (record { u = u; v = v; w = 0 })
 row-box n u v f hu hv = record { on_u = hu; on_v = hv; on_w = f.w_some }

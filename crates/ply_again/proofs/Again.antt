@@ -19,7 +19,7 @@ use Rattle.ply.specs.declared.Refusal.{Refusal}
 use Rattle.ply.specs.declared.Refusal.TheVariants.{NoHeader, NoBody, NoRoom}
 use Rattle.ply_write.specs.Form.{head_text, count_of, size_of, OfKind, Headed}
 use Rattle.ply_write.specs.Answers.{WriteOf}
-use Rattle.ply.specs.Answers.{SizesOf, ReadOf}
+use Rattle.ply.specs.Answers.{counted, SizesOf, ReadOf}
 use Rattle.ply_write.proofs.Writing.{head_length, file-size}
 use Rattle.ply_write.proofs.Promises.{WrittenBack}
 use Rattle.ply.proofs.Files.{kind_headed}
@@ -88,6 +88,12 @@ module _ (s : List ℕ) (a : Result Counts Refusal) (q : SizesOf s a) (z : false
   is_read = ap is_ok back.answer
 
   module _ (c : Counts) (e : d ≡ Ok c) where
+    pub counts-small : (c.vertices ≤ 5461) × (c.faces ≤ 10082)
+    counts-small =
+        let b = back.answer in
+        let x : c ≡ counted (count_of kind.words) (count_of kind.triangles) = cc in
+        (omega (arith, ap (λ (k : Counts). k.vertices) x, long), omega (arith, ap (λ (k : Counts). k.faces) x, long))
+
     module _ (l l' : List ℕ) (w : Result ℕ WriteRefusal) (room : length l ≡ 131072) (o : WriteOf (take (c.vertices * 3) us') (take (c.faces * 3) rs') l l' w) where
       again : WrittenBack s l l' w
       again = let b : ReadOf s us rs us' rs' (Ok c) = rw e at p in write-after-read b (omega arith) o
