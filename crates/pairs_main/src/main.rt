@@ -12,11 +12,12 @@ fn sign(w: u32) -> char {
 
 // The words, a space after each third.
 fn show(rt: &impl Print, room: &[u32]) -> io::Result<()> {
-    for (i, w) in room.iter().enumerate() {
+    let (thirds, rest) = room.as_chunks::<3>();
+    for [a, b, c] in thirds {
+        print!(rt; "{}{}{} ", sign(*a), sign(*b), sign(*c))?;
+    }
+    for w in rest {
         print!(rt; "{}", sign(*w))?;
-        if i % 3 == 2 {
-            print!(rt; " ")?;
-        }
     }
     println!(rt)
 }

@@ -49,6 +49,13 @@ fn samples(state: &mut u64) -> [Option<f64>; 14] {
     ends
 }
 
+// The generator's state goes on as far, and no sample is made.
+fn skip(state: &mut u64) {
+    for _ in 0..14usize {
+        *state = next(*state);
+    }
+}
+
 fn show(rt: &impl Print, mask: u16, ends: [Option<f64>; 14]) -> io::Result<()> {
     let r = topology::test_topology(mask, true, ends, samples::INSIDE);
     let case = r.case;
@@ -64,9 +71,11 @@ fn show(rt: &impl Print, mask: u16, ends: [Option<f64>; 14]) -> io::Result<()> {
 fn main(rt: HostRuntime) -> io::Result<()> {
     let mut state = SEED;
     for mask in 0..16384u16 {
-        let ends = samples(&mut state);
         if mask % STEP == 0 {
+            let ends = samples(&mut state);
             show(&rt, mask, ends)?;
+        } else {
+            skip(&mut state);
         }
     }
     Ok(())
